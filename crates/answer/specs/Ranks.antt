@@ -1,0 +1,36 @@
+-- From a solver's answer to ranks that were checked.
+use Prim.Native.Nat.{ℕ, _*_}
+use mathlib.Core.Bool.{Bool, true, false, _||_}
+use mathlib.Core.List.{List, [], _∷_}
+use lib.Dec.{leb, eqb}
+use lib.ListN.{length}
+use Rattle.reply.specs.Reply.{Reply, given, refused, unless, _>>_, _>>=_, _at_}
+use Rattle.term.specs.Tables.{rankBits}
+use Rattle.book.specs.Book.{Book, symbols}
+use Rattle.book.specs.Reading.{readBook}
+use Rattle.order.specs.Clearing.{allDecrease}
+use Rattle.clauses.specs.Cnf.{Literal, is, isNot, Assignment}
+use Rattle.clauses.specs.Numbering.{ranksOf}
+use Rattle.clauses.specs.Blocks.{«V»}
+use Rattle.answer.specs.Lines.{readAnswer}
+
+-- "one not named counts as 0"
+unfoldable pub valued : List Literal → Assignment
+valued [] v = false
+valued (is u ∷ ls) v = eqb u v || valued ls v
+valued (isNot u ∷ ls) v = valued ls v
+
+-- "answer 12, 13, 14, 9, 8", of a book that was read; `room` is the lent buffer's length.
+unfoldable pub answered : Book → (text : List ℕ) (room : ℕ) → Reply (List ℕ)
+answered book text room = do
+  unless (leb (length text) 65536) (12 at 0)
+  literals ← readAnswer («V» book) (symbols book * rankBits (symbols book)) text
+  unless (leb (symbols book) room) (9 at 0)
+  allDecrease (ranksOf (symbols book) (rankBits (symbols book)) (valued literals)) 0 (book .rules)
+  given (ranksOf (symbols book) (rankBits (symbols book)) (valued literals))
+
+-- ENTRY POINT: ranks from an answer.
+unfoldable pub ranksFromAnswer : (book text : List ℕ) (room : ℕ) → Reply (List ℕ)
+ranksFromAnswer book text room = do
+  b ← readBook book
+  answered b text room

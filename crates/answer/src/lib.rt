@@ -1,0 +1,1 @@
+// A solver's answer. The definitions stand in specs/.

@@ -1,0 +1,27 @@
+-- A key for computed cases: what opens it may compute with every definition of this crate and of those below.
+use Rattle.term.specs.Computing
+use Rattle.book.specs.Book.{symbols}
+use Rattle.book.specs.Reading.{
+  sideOpen,
+  noRuleYet,
+  sideNodes,
+  known,
+  allowed,
+  bodyFits,
+  roomLeft,
+  leftAfter,
+  rightAfter,
+  nodeAt,
+  next,
+  recordAt,
+  ended,
+  readFrom,
+  start,
+  readBook,
+}
+use Rattle.book.specs.Record.{refusalOf, recordNode, recordEnd, nodesFrom, recordTerm, readRecord}
+use Rattle.book.specs.Examples.{fx-to-gx, example1, undoing, divIE, associative, reversed, fx-to-x, fx-to-fx, fx-to-y, x-to-x, onlyEnd, emptyBook, adding, oneAndNone, forgetful}
+
+unfoldable pub computing : Unit {0}
+unfolding Computing.computing symbols sideOpen noRuleYet sideNodes known allowed bodyFits roomLeft leftAfter rightAfter nodeAt next recordAt ended readFrom start readBook refusalOf recordNode recordEnd nodesFrom recordTerm readRecord fx-to-gx example1 undoing divIE associative reversed fx-to-x fx-to-fx fx-to-y x-to-x onlyEnd emptyBook adding oneAndNone forgetful
+computing = tt

@@ -1,0 +1,5 @@
+pub mod Book
+pub mod Reading
+pub mod Record
+pub mod Examples
+pub mod Computing

@@ -1,0 +1,1 @@
+// Reading books and records. The definitions stand in specs/.

@@ -1,0 +1,45 @@
+-- A key for computed cases: what opens it may compute with every definition of this crate and of those below.
+use mathlib.Core.List.{flatMap, flatten}
+use Rattle.order.specs.Computing
+use Rattle.clauses.specs.Cnf.{holds, someHolds, allHold, Satisfies}
+use Rattle.clauses.specs.Numbering.{bit, pairNumber, G, firstBase, baseAfter, C, D, numbers, rankBelow, ranksOf}
+use Rattle.clauses.specs.Blocks.{
+  pairClauses,
+  pairBlock,
+  pairBlocksOf,
+  pairBlocks,
+  numberedArgs,
+  subterms,
+  CAt,
+  DAt,
+  partsBehind,
+  partsOfD,
+  partsOfC,
+  someIdentical,
+  allParts,
+  someParts,
+  nodeBlock,
+  ruleBlocks,
+  rulesBlocks,
+  blocks,
+  baseBehind,
+  «V»,
+}
+use Rattle.clauses.specs.File.{
+  clauseFile,
+  literalBytes,
+  clauseBytes,
+  header,
+  fileBlocks,
+  fileBytes,
+  numberedBlock,
+  block,
+  printed,
+  clauseProgram,
+}
+use Rattle.clauses.specs.Item.{signed, literalOf, item}
+use Rattle.clauses.specs.Dimacs.{blank, ahead, allClosed, clausesOf, counted, behindHeader, fromWords, readDimacs}
+
+unfoldable pub computing : Unit {0}
+unfolding Computing.computing flatMap flatten holds someHolds allHold Satisfies bit pairNumber G firstBase baseAfter C D numbers rankBelow ranksOf pairClauses pairBlock pairBlocksOf pairBlocks numberedArgs subterms CAt DAt partsBehind partsOfD partsOfC someIdentical allParts someParts nodeBlock ruleBlocks rulesBlocks blocks baseBehind «V» clauseFile literalBytes clauseBytes header fileBlocks fileBytes numberedBlock block printed clauseProgram signed literalOf item blank ahead allClosed clausesOf counted behindHeader fromWords readDimacs
+computing = tt

@@ -1,0 +1,58 @@
+-- The clause file as bytes, its numbered blocks, and the clause program's output.
+use Prim.Native.Nat.{ℕ}
+use mathlib.Core.List.{List, [], _∷_, _++_, map, flatMap, flatten}
+use mathlib.Core.Option.{Option, none, some}
+use lib.Dec.{leb}
+use lib.ListN.{length, getElem?}
+use Rattle.reply.specs.Reply.{Reply, Attempt, given, refused, unless, _>>_, _>>=_, _at_}
+use Rattle.reply.specs.Decimal.{decimal}
+use Rattle.reply.specs.Text.{ascii, refusedLine}
+use Rattle.book.specs.Book.{Book}
+use Rattle.book.specs.Reading.{readBook}
+use Rattle.clauses.specs.Cnf.{Literal, is, isNot, Clause, Cnf}
+use Rattle.clauses.specs.Blocks.{blocks, «V»}
+
+-- The book's clauses over its V variables.
+unfoldable pub clauseFile : Book → Cnf
+clauseFile book = record { variables = «V» book; clauses = flatten (blocks book) }
+
+-- "A clause is its literals in that order, a space after each, then 0 and a newline."
+unfoldable pub literalBytes : Literal → List ℕ
+literalBytes (is v) = decimal v ++ ascii " "
+literalBytes (isNot v) = ascii "-" ++ decimal v ++ ascii " "
+
+unfoldable pub clauseBytes : Clause → List ℕ
+clauseBytes clause = flatMap literalBytes clause ++ ascii "0\n"
+
+-- "Block 0: `p cnf V M` and a newline, V the base after the last rule, M the number of clauses that follow."
+unfoldable pub header : Book → List ℕ
+header book =
+    ascii "p cnf " ++ decimal («V» book) ++ ascii " " ++ decimal (length (flatten (blocks book))) ++ ascii "\n"
+
+-- "The file is a sequence of numbered blocks."
+unfoldable pub fileBlocks : Book → List (List ℕ)
+fileBlocks book = header book ∷ map (flatMap clauseBytes) (blocks book)
+
+unfoldable pub fileBytes : Book → List ℕ
+fileBytes book = flatten (fileBlocks book)
+
+-- Refusal 10, "no block of that number".
+unfoldable pub numberedBlock : Option (List ℕ) → Reply (List ℕ)
+numberedBlock none = refused (10 at 0)
+numberedBlock (some bytes) = given bytes
+
+-- ENTRY POINT: a block. "block 10, 9": 9 for a "lent buffer under 512 bytes"; `room` is the lent buffer's length.
+unfoldable pub block : (book : List ℕ) (number room : ℕ) → Reply (List ℕ)
+block book number room = do
+  b ← readBook book
+  bytes ← numberedBlock (getElem? (fileBlocks b) number)
+  unless (leb 512 room) (9 at 0)
+  given bytes
+
+-- "The clause program reads a book .. and prints all blocks, or the one line `refused N at P`."
+unfoldable pub printed : Reply Book → List ℕ
+printed (given book) = fileBytes book
+printed (refused r) = refusedLine r
+
+unfoldable pub clauseProgram : (book : List ℕ) → List ℕ
+clauseProgram book = printed (readBook book)

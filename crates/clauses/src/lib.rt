@@ -1,0 +1,1 @@
+// The clause file. The definitions stand in specs/.

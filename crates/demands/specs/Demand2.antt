@@ -1,0 +1,105 @@
+-- Demand 2: what the clause file, the rank check and a run mean.
+use Prim.Native.Nat.{ℕ, zero, suc, _<_, _^_}
+use mathlib.Core.List.{List, List·Memᴰ}
+use mathlib.Core.Logic.{_↔_}
+use mathlib.Core.Option.{Option, none, some}
+use mathlib.Core.Path.{_≡_}
+use lib.ListN.{length}
+use Rattle.reply.specs.Reply.{given}
+use Rattle.term.specs.Tables.{rankBits}
+use Rattle.term.specs.Term.{Term, size}
+use Rattle.book.specs.Book.{Book, Rule, symbols}
+use Rattle.book.specs.Reading.{readBook}
+use Rattle.book.specs.Record.{readRecord}
+use Rattle.order.specs.Precedence.{StrictPrecedence, Above}
+use Rattle.order.specs.Clearing.{Clears, checkRanks}
+use Rattle.clauses.specs.Cnf.{Cnf, Assignment, Satisfies}
+use Rattle.clauses.specs.Numbering.{ranksOf}
+use Rattle.clauses.specs.File.{clauseProgram}
+use Rattle.clauses.specs.Dimacs.{readDimacs}
+use Rattle.answer.specs.Ranks.{ranksFromAnswer}
+use Rattle.rewriting.specs.Step.{Step, stepOf}
+use Rattle.rewriting.specs.Run.{Outcome, done, spent, tooLarge, Ran, run}
+use Rattle.demands.specs.EntryPoints.{Bytes}
+
+-- A satisfying assignment of a file: of the clauses that a DIMACS reader finds in its bytes.
+pub record SatisfyingAssignment (file : Bytes) (α : Assignment) : Type 0 where
+  pub clauses : Cnf
+  pub reads : readDimacs file ≡ some clauses
+  pub satisfies : Satisfies α clauses
+
+-- "some strict precedence (ANY irreflexive, transitive relation) makes every rule decrease"
+pub record SomePrecedenceClears (book : Book) : Type 1 where
+  pub above : ℕ → ℕ → Type 0
+  pub strict : StrictPrecedence (symbols book) above
+  pub clears : Clears above (book .rules)
+
+-- The ranks that an assignment's rank bits are.
+unfoldable pub rankBitsOf : Book → Assignment → List ℕ
+rankBitsOf book α = ranksOf (symbols book) (rankBits (symbols book)) α
+
+-- "The clause file has a satisfying assignment exactly if some strict precedence (ANY irreflexive, transitive relation) makes every rule
+-- decrease in the lexicographic path order."
+unfoldable pub SatisfiableExactlyIfCleared : Type 1
+SatisfiableExactlyIfCleared =
+    (bytes : Bytes) (book : Book) → readBook bytes ≡ given book →
+    ((α : Assignment) × SatisfyingAssignment (clauseProgram bytes) α) ↔ SomePrecedenceClears book
+
+-- "The rank bits of every satisfying assignment clear the book".
+unfoldable pub RankBitsClear : Type 0
+RankBitsClear =
+    (bytes : Bytes) (book : Book) (α : Assignment) → readBook bytes ≡ given book →
+    SatisfyingAssignment (clauseProgram bytes) α → Clears (Above (rankBitsOf book α)) (book .rules)
+
+-- "every clearing table of ranks that fit those bits extends to one."
+unfoldable pub ClearingRanksExtend : Type 0
+ClearingRanksExtend =
+    (bytes : Bytes) (book : Book) (ranks : List ℕ) → readBook bytes ≡ given book → length ranks ≡ symbols book →
+    ((rank : ℕ) → List·Memᴰ rank ranks → rank < 2 ^ rankBits (symbols book)) → Clears (Above ranks) (book .rules) →
+    (α : Assignment) × SatisfyingAssignment (clauseProgram bytes) α × (rankBitsOf book α ≡ ranks)
+
+-- "Ranks are accepted exactly if they make every rule decrease", one for each symbol ..
+unfoldable pub AcceptedExactlyIfDecreasing : Type 0
+AcceptedExactlyIfDecreasing =
+    (bytes : Bytes) (book : Book) (ranks : List ℕ) → readBook bytes ≡ given book →
+    (checkRanks bytes ranks ≡ given tt) ↔ ((length ranks ≡ symbols book) × Clears (Above ranks) (book .rules))
+
+-- .. "whoever proposed them": an answer's ranks are accepted only if the rank check accepts them.
+unfoldable pub AnswersAreChecked : Type 0
+AnswersAreChecked =
+    (bytes text : Bytes) (room : ℕ) (ranks : List ℕ) → ranksFromAnswer bytes text room ≡ given ranks → checkRanks bytes ranks ≡ given tt
+
+-- So many of document 01's own steps.
+pub data OwnSteps (rules : List Rule) : ℕ → Term → Term → Type 0 where
+  stay : {t : Term} → OwnSteps rules zero t t
+  next : {n : ℕ} {s t u : Term} → stepOf rules s ≡ some t → OwnSteps rules n t u → OwnSteps rules (suc n) s u
+
+-- What each outcome says of the term reached: "Done: no rule fits"; "Spent: the budget is used and a rule still fits"; "Too large: steps
+-- remain, a rule fits, and the next term would have more than 256 nodes".
+unfoldable pub Means : Outcome → List Rule → (budget steps : ℕ) → Term → Type 0
+Means done rules budget steps t = stepOf rules t ≡ none
+Means spent rules budget steps t = (steps ≡ budget) × ((t′ : Term) × (stepOf rules t ≡ some t′))
+Means tooLarge rules budget steps t = (steps < budget) × ((t′ : Term) × (stepOf rules t ≡ some t′) × (256 < size t′))
+
+-- "A run yields the term and the step count of document 01's rewriting rules": as many of its own steps lead from the record to the term,
+-- and the outcome is the one that the term reached has.
+unfoldable pub RunYields : Type 0
+RunYields =
+    (bytes ranks record′ : Bytes) (budget room : ℕ) (book : Book) (t : Term) (ran : Ran) → readBook bytes ≡ given book →
+    readRecord book record′ ≡ given t → run bytes ranks record′ budget room ≡ given ran →
+    OwnSteps (book .rules) (ran .steps) t (ran .reached) × Means (ran .outcome) (book .rules) budget (ran .steps) (ran .reached)
+
+-- Document 01's step is one of the free steps, and it finds none exactly if there is none.
+unfoldable pub OwnStepIsFree : Type 0
+OwnStepIsFree =
+    (rules : List Rule) (s : Term) →
+    ((t : Term) → stepOf rules s ≡ some t → Step rules s t) × ((stepOf rules s ≡ none) ↔ ((t : Term) → Step rules s t → ⊥))
+
+pub record Demand2 : Type 1 where
+  pub satisfiable : SatisfiableExactlyIfCleared
+  pub rankBitsClear : RankBitsClear
+  pub ranksExtend : ClearingRanksExtend
+  pub accepted : AcceptedExactlyIfDecreasing
+  pub answers : AnswersAreChecked
+  pub runs : RunYields
+  pub ownSteps : OwnStepIsFree

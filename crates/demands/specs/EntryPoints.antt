@@ -1,0 +1,103 @@
+-- The six entry points side by side: what each is asked, what it replies, which numbers it refuses with, what it writes.
+use Prim.Native.Nat.{ℕ}
+use mathlib.Core.List.{List, [], _∷_}
+use Rattle.reply.specs.Reply.{Reply, given, refused, _>>=_}
+use Rattle.reply.specs.Lent.{laid}
+use Rattle.term.specs.Prefix.{recordBytes}
+use Rattle.book.specs.Book.{Book}
+use Rattle.book.specs.Reading.{readBook}
+use Rattle.order.specs.Clearing.{checkRanks}
+use Rattle.clauses.specs.File.{block}
+use Rattle.answer.specs.Ranks.{ranksFromAnswer}
+use Rattle.rewriting.specs.Run.{Ran, run}
+use Rattle.rewriting.specs.Argument.{Part, argument}
+
+-- Bytes: a book, ranks, a record, a solver's answer, a lent buffer.
+abbrev pub Bytes : Type 0
+Bytes = List ℕ
+
+-- `written` is what a result lays at the start of the lent buffer: nothing where no buffer is lent.
+pub record EntryPoint : Type 1 where
+  pub Asked : Type 0
+  pub Result : Type 0
+  pub reply : Asked → Reply Result
+  pub numbers : List ℕ
+  pub written : Result → Bytes
+
+-- What the lent buffer holds afterwards.
+unfoldable pub bufferAfter : (e : EntryPoint) → e .Asked → Bytes → Bytes
+bufferAfter e asked buffer =
+    laid
+    (do
+      result ← e .reply asked
+      given (e .written result))
+    buffer
+
+-- A book.
+unfoldable pub readingABook : EntryPoint
+readingABook =
+    record {
+      Asked = Bytes;
+      Result = Book;
+      reply = readBook;
+      numbers = 1 ∷ 2 ∷ 3 ∷ 4 ∷ 5 ∷ 6 ∷ [];
+      written = λ book. [];
+    }
+
+-- A book, the block's number and the lent buffer's length: "block 10, 9".
+unfoldable pub aBlock : EntryPoint
+aBlock =
+    record {
+      Asked = Bytes × ℕ × ℕ;
+      Result = Bytes;
+      reply = λ asked. block (asked .0) (asked .1) (asked .2);
+      numbers = 1 ∷ 2 ∷ 3 ∷ 4 ∷ 5 ∷ 6 ∷ 10 ∷ 9 ∷ [];
+      written = λ bytes. bytes;
+    }
+
+-- A book and ranks: "ranks 7, 8".
+unfoldable pub checkingRanks : EntryPoint
+checkingRanks =
+    record {
+      Asked = Bytes × Bytes;
+      Result = Unit {0};
+      reply = λ asked. checkRanks (asked .0) (asked .1);
+      numbers = 1 ∷ 2 ∷ 3 ∷ 4 ∷ 5 ∷ 6 ∷ 7 ∷ 8 ∷ [];
+      written = λ accepted. [];
+    }
+
+-- A book, an answer and the lent buffer's length: "answer 12, 13, 14, 9, 8".
+unfoldable pub ranksOfAnAnswer : EntryPoint
+ranksOfAnAnswer =
+    record {
+      Asked = Bytes × Bytes × ℕ;
+      Result = Bytes;
+      reply = λ asked. ranksFromAnswer (asked .0) (asked .1) (asked .2);
+      numbers = 1 ∷ 2 ∷ 3 ∷ 4 ∷ 5 ∷ 6 ∷ 12 ∷ 13 ∷ 14 ∷ 9 ∷ 8 ∷ [];
+      written = λ ranks. ranks;
+    }
+
+-- A book, ranks, a record, a budget and the lent buffer's length: "run 7, 8, 11, 9".
+unfoldable pub aRun : EntryPoint
+aRun =
+    record {
+      Asked = Bytes × Bytes × Bytes × ℕ × ℕ;
+      Result = Ran;
+      reply = λ asked. run (asked .0) (asked .1) (asked .2) (asked .3) (asked .4);
+      numbers = 1 ∷ 2 ∷ 3 ∷ 4 ∷ 5 ∷ 6 ∷ 7 ∷ 8 ∷ 11 ∷ 9 ∷ [];
+      written = λ ran. recordBytes (ran .reached);
+    }
+
+-- A book, a record and the argument's number: "argument 11, 15".
+unfoldable pub anArgument : EntryPoint
+anArgument =
+    record {
+      Asked = Bytes × Bytes × ℕ;
+      Result = Part;
+      reply = λ asked. argument (asked .0) (asked .1) (asked .2);
+      numbers = 1 ∷ 2 ∷ 3 ∷ 4 ∷ 5 ∷ 6 ∷ 11 ∷ 15 ∷ [];
+      written = λ part. [];
+    }
+
+unfoldable pub entryPoints : List EntryPoint
+entryPoints = readingABook ∷ aBlock ∷ checkingRanks ∷ ranksOfAnAnswer ∷ aRun ∷ anArgument ∷ []

@@ -1,0 +1,9 @@
+-- A key for computed cases: what opens it may compute with every definition of this crate and of those below.
+use Rattle.book.specs.Computing
+use Rattle.order.specs.Precedence.{Above, above}
+use Rattle.order.specs.Test.{everyArg, someArg, decreaseAt, reaches, atRoot, exceedsIn, exceeds}
+use Rattle.order.specs.Clearing.{Decreases, Clears, decreases, allDecrease, ranksClear, checkRanks}
+
+unfoldable pub computing : Unit {0}
+unfolding Computing.computing Above above everyArg someArg decreaseAt reaches atRoot exceedsIn exceeds Decreases Clears decreases allDecrease ranksClear checkRanks
+computing = tt

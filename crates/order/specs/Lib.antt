@@ -1,0 +1,6 @@
+pub mod Precedence
+pub mod Exceeds
+pub mod Test
+pub mod Clearing
+pub mod ReductionOrder
+pub mod Computing

@@ -1,0 +1,1 @@
+// The order and the rank check. The definitions stand in specs/.

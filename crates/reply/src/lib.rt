@@ -1,0 +1,1 @@
+// What an answer means on paper. The definitions stand in specs/.

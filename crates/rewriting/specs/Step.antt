@@ -1,0 +1,49 @@
+-- A step: chosen freely (a relation), and document 01's own (a function); sequences of free steps.
+use Prim.Native.Nat.{ℕ, zero, suc}
+use mathlib.Core.Bool.{Bool, true, false}
+use mathlib.Core.List.{List, [], _∷_, List·Memᴰ}
+use mathlib.Core.Option.{Option, none, some}
+use mathlib.Core.Path.{_≡_}
+use Rattle.term.specs.Term.{Term, Args, var, app, nil, cons}
+use Rattle.book.specs.Book.{Rule}
+use Rattle.term.specs.Replacement.{Replacement, replace}
+use Rattle.rewriting.specs.Fits.{matching, fits}
+
+mutual
+  -- "Every step, a freely chosen one too, puts the rule's right side, under the replacement that made it fit, where the subterm stood,
+  -- and leaves the rest of the term as it was."
+  pub data Step (rules : List Rule) : Term → Term → Type 0 where
+    atRoot : {s t : Term} (rule : Rule) (σ : Replacement) → List·Memᴰ rule rules → replace σ (rule .left) ≡ s → replace σ (rule .right) ≡ t → Step rules s t
+    inside : {f : ℕ} {ss ts : Args} → StepInside rules ss ts → Step rules (app f ss) (app f ts)
+
+  pub data StepInside (rules : List Rule) : Args → Args → Type 0 where
+    inFirst : {s t : Term} {ss : Args} → Step rules s t → StepInside rules (cons s ss) (cons t ss)
+    inLater : {s : Term} {ss ts : Args} → StepInside rules ss ts → StepInside rules (cons s ss) (cons s ts)
+
+-- A sequence of so many steps, rule and place chosen freely.
+pub data Steps (rules : List Rule) : ℕ → Term → Term → Type 0 where
+  stay : {t : Term} → Steps rules zero t t
+  step : {n : ℕ} {s t u : Term} → Step rules s t → Steps rules n t u → Steps rules (suc n) s u
+
+-- "and there the rule with the lowest number": the subterm under the first rule that fits it.
+unfoldable pub rewritten : List Rule → Term → Option Term
+rewritten [] s = none
+rewritten (rule ∷ rules) s =
+    elim (fits (rule .left) s) [
+      | true ↦ some (replace (matching (rule .left) s) (rule .right))
+      | false ↦ rewritten rules s
+    ]
+
+-- "A step takes the first place in postorder at which some rule fits": the arguments left to right, then the node.
+unfoldable mutual
+  pub stepOf : List Rule → Term → Option Term
+  stepOf rules (var x) = rewritten rules (var x)
+  stepOf rules (app f ts) = elim (stepOfArgs rules ts) [ some ts′ ↦ some (app f ts′) | none ↦ rewritten rules (app f ts) ]
+
+  pub stepOfArgs : List Rule → Args → Option Args
+  stepOfArgs rules nil = none
+  stepOfArgs rules (cons t ts) =
+      elim (stepOf rules t) [
+        | some t′ ↦ some (cons t′ ts)
+        | none ↦ elim (stepOfArgs rules ts) [ some ts′ ↦ some (cons t ts′) | none ↦ none ]
+      ]

@@ -1,0 +1,1 @@
+// Steps, the run and the argument question. The definitions stand in specs/.

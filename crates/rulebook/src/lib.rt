@@ -1,0 +1,1 @@
+// The boundary to C: a thin function for each entry point.

@@ -1,0 +1,5 @@
+pub mod Tables
+pub mod Term
+pub mod Prefix
+pub mod Replacement
+pub mod Computing

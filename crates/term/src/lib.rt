@@ -1,0 +1,1 @@
+// Terms as places in bytes. The definitions stand in specs/.
