@@ -1,5 +1,6 @@
 pub mod Book
 pub mod Reading
 pub mod Record
+pub mod Limits
 pub mod Examples
 pub mod Computing

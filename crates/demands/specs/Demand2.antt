@@ -1,5 +1,5 @@
 -- Demand 2: what the clause file, the rank check and a run mean.
-use Prim.Native.Nat.{ℕ, zero, suc, _<_, _^_}
+use Prim.Native.Nat.{ℕ, _<_, _^_}
 use mathlib.Core.List.{List, List·Memᴰ}
 use mathlib.Core.Logic.{_↔_}
 use mathlib.Core.Option.{Option, none, some}
@@ -7,7 +7,7 @@ use mathlib.Core.Path.{_≡_}
 use lib.ListN.{length}
 use Rattle.reply.specs.Reply.{given}
 use Rattle.term.specs.Tables.{rankBits}
-use Rattle.term.specs.Term.{Term, size}
+use Rattle.term.specs.Term.{Term}
 use Rattle.book.specs.Book.{Book, Rule, symbols}
 use Rattle.book.specs.Reading.{readBook}
 use Rattle.book.specs.Record.{readRecord}
@@ -18,8 +18,8 @@ use Rattle.clauses.specs.Numbering.{ranksOf}
 use Rattle.clauses.specs.File.{clauseProgram}
 use Rattle.clauses.specs.Dimacs.{readDimacs}
 use Rattle.answer.specs.Ranks.{ranksFromAnswer}
-use Rattle.rewriting.specs.Step.{Step, stepOf}
-use Rattle.rewriting.specs.Run.{Outcome, done, spent, tooLarge, Ran, run}
+use Rattle.rewriting.specs.Step.{Step, stepOf, OwnSteps}
+use Rattle.rewriting.specs.Run.{Ran, Means, run}
 use Rattle.demands.specs.EntryPoints.{Bytes}
 
 -- A satisfying assignment of a file: of the clauses that a DIMACS reader finds in its bytes.
@@ -68,18 +68,6 @@ AcceptedExactlyIfDecreasing =
 unfoldable pub AnswersAreChecked : Type 0
 AnswersAreChecked =
     (bytes text : Bytes) (room : ℕ) (ranks : List ℕ) → ranksFromAnswer bytes text room ≡ given ranks → checkRanks bytes ranks ≡ given tt
-
--- So many of document 01's own steps.
-pub data OwnSteps (rules : List Rule) : ℕ → Term → Term → Type 0 where
-  stay : {t : Term} → OwnSteps rules zero t t
-  next : {n : ℕ} {s t u : Term} → stepOf rules s ≡ some t → OwnSteps rules n t u → OwnSteps rules (suc n) s u
-
--- What each outcome says of the term reached: "Done: no rule fits"; "Spent: the budget is used and a rule still fits"; "Too large: steps
--- remain, a rule fits, and the next term would have more than 256 nodes".
-unfoldable pub Means : Outcome → List Rule → (budget steps : ℕ) → Term → Type 0
-Means done rules budget steps t = stepOf rules t ≡ none
-Means spent rules budget steps t = (steps ≡ budget) × ((t′ : Term) × (stepOf rules t ≡ some t′))
-Means tooLarge rules budget steps t = (steps < budget) × ((t′ : Term) × (stepOf rules t ≡ some t′) × (256 < size t′))
 
 -- "A run yields the term and the step count of document 01's rewriting rules": as many of its own steps lead from the record to the term,
 -- and the outcome is the one that the term reached has.

@@ -1,8 +1,9 @@
 -- The run: document 01's steps against a budget.
-use Prim.Native.Nat.{ℕ, zero, suc}
+use Prim.Native.Nat.{ℕ, zero, suc, _<_}
 use mathlib.Core.Bool.{Bool, true, false}
 use mathlib.Core.List.{List}
 use mathlib.Core.Option.{Option, none, some}
+use mathlib.Core.Path.{_≡_}
 use lib.Dec.{leb}
 use Rattle.reply.specs.Reply.{Reply, given, refused, unless, _>>_, _>>=_, _at_}
 use Rattle.term.specs.Term.{Term, size}
@@ -39,6 +40,13 @@ runFrom rules (suc budget) made t =
             | false ↦ record { outcome = tooLarge; steps = made; reached = t }
           ]
     ]
+
+-- What each outcome says of the term reached: "Done: no rule fits"; "Spent: the budget is used and a rule still fits"; "Too large: steps
+-- remain, a rule fits, and the next term would have more than 256 nodes".
+unfoldable pub Means : Outcome → List Rule → (budget steps : ℕ) → Term → Type 0
+Means done rules budget steps t = stepOf rules t ≡ none
+Means spent rules budget steps t = (steps ≡ budget) × ((t′ : Term) × (stepOf rules t ≡ some t′))
+Means tooLarge rules budget steps t = (steps < budget) × ((t′ : Term) × (stepOf rules t ≡ some t′) × (256 < size t′))
 
 -- "run 7, 8, 11, 9", of a book that was read: 9 for a "lent buffer under .. 513"; `room` is the lent buffer's length.
 unfoldable pub ranOn : Book → (ranks record′ : List ℕ) (budget room : ℕ) → Reply Ran

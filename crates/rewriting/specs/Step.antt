@@ -47,3 +47,8 @@ unfoldable mutual
         | some t′ ↦ some (cons t′ ts)
         | none ↦ elim (stepOfArgs rules ts) [ some ts′ ↦ some (cons t ts′) | none ↦ none ]
       ]
+
+-- So many of document 01's own steps.
+pub data OwnSteps (rules : List Rule) : ℕ → Term → Term → Type 0 where
+  stay : {t : Term} → OwnSteps rules zero t t
+  next : {n : ℕ} {s t u : Term} → stepOf rules s ≡ some t → OwnSteps rules n t u → OwnSteps rules (suc n) s u
