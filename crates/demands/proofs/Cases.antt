@@ -3,19 +3,20 @@ use mathlib.Core.Bool.{true}
 use mathlib.Core.Path.{_≡_, refl}
 use Rattle.clauses.specs.Computing as Clauses
 use Rattle.rewriting.specs.Computing as Rewriting
-use Rattle.demands.specs.Cases.{
+use Rattle.demands.specs.Claims.{
   tables,
   tablesOf,
   every,
   clears,
+  doesNotClear,
   gives,
   sameOutcome,
   ranAs,
   isText,
   holds,
-  cases,
 }
+use Rattle.demands.specs.Cases.{cases}
 
 pub cases-hold : every holds cases ≡ true
-unfolding Clauses.computing Rewriting.computing tables tablesOf every clears gives sameOutcome ranAs isText holds cases
+unfolding Clauses.computing Rewriting.computing tables tablesOf every clears doesNotClear gives sameOutcome ranAs isText holds cases
 cases-hold = refl

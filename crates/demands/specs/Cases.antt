@@ -1,13 +1,8 @@
--- The cases marked P of "Examples at the edges", as one list; `holds` says what must hold in each.
-use Prim.Native.Nat.{ℕ, zero, suc}
-use mathlib.Core.Bool.{Bool, true, false, not, _&&_, Bool·beq}
-use mathlib.Core.List.{List, [], _∷_, map, flatMap}
-use lib.Dec.{eqb}
-use Rattle.reply.specs.Reply.{Refusal, Reply, Attempt, given, refused, _at_}
-use Rattle.reply.specs.Text.{ascii, sameText}
-use Rattle.term.specs.Prefix.{recordBytes}
-use Rattle.book.specs.Book.{Book, symbols}
-use Rattle.book.specs.Reading.{readBook}
+-- The cases marked P of "Examples at the edges", and the clause program's printed file, as one list.
+use mathlib.Core.Bool.{Bool, true, false}
+use mathlib.Core.List.{List, [], _∷_}
+use Rattle.reply.specs.Reply.{Refusal, _at_}
+use Rattle.reply.specs.Text.{ascii}
 use Rattle.book.specs.Examples.{
   fx-to-gx,
   example1,
@@ -25,75 +20,8 @@ use Rattle.book.specs.Examples.{
   oneAndNone,
 }
 use Rattle.order.specs.Precedence.{above}
-use Rattle.order.specs.Clearing.{checkRanks}
-use Rattle.clauses.specs.Numbering.{numbers}
-use Rattle.clauses.specs.File.{block, clauseProgram}
-use Rattle.rewriting.specs.Run.{Outcome, done, spent, tooLarge, Ran, run}
-use Rattle.demands.specs.EntryPoints.{Bytes}
-
-pub data Case : Type 0 where
-  -- for every table of ranks 0 to n−1, the rank check's reply is as claimed
-  forAllRanks : (book : Bytes) (claim : (ranks : List ℕ) → Reply (Unit {0}) → Bool) → Case
-  -- for one table of ranks
-  forRanks : (book : Bytes) (ranks : List ℕ) (claim : Reply (Unit {0}) → Bool) → Case
-  -- the clause file's header
-  headed : (book header : Bytes) → Case
-  -- all that the clause program prints
-  prints : (book text : Bytes) → Case
-  -- a run of a record: its outcome, its steps, and the record of the term reached
-  runs : (book : Bytes) (ranks : List ℕ) (record′ : Bytes) (budget : ℕ) → Outcome → (steps : ℕ) (reached : Bytes) → Case
-
--- All tables of so many ranks below a bound.
-unfoldable pub tables : (count bound : ℕ) → List (List ℕ)
-tables zero bound = [] ∷ []
-tables (suc count) bound = flatMap (λ rank. map (λ (ranks : List ℕ). rank ∷ ranks) (tables count bound)) (numbers 0 bound)
-
--- All tables of ranks 0 to n−1; a book that is refused has the one table without ranks.
-unfoldable pub tablesOf : Reply Book → List (List ℕ)
-tablesOf (given book) = tables (symbols book) (symbols book)
-tablesOf (refused r) = [] ∷ []
-
-unfoldable pub every : {A : Type 0} → (A → Bool) → List A → Bool
-every test [] = true
-every test (a ∷ as′) = test a && every test as′
-
--- "clears"
-unfoldable pub clears : Reply (Unit {0}) → Bool
-clears (given accepted) = true
-clears (refused r) = false
-
--- "gives 8 at 0", and the like
-unfoldable pub gives : Refusal → {A : Type 0} → Reply A → Bool
-gives r (given a) = false
-gives r (refused q) = eqb (r .number) (q .number) && eqb (r .place) (q .place)
-
-unfoldable pub sameOutcome : Outcome → Outcome → Bool
-sameOutcome done done = true
-sameOutcome done spent = false
-sameOutcome done tooLarge = false
-sameOutcome spent done = false
-sameOutcome spent spent = true
-sameOutcome spent tooLarge = false
-sameOutcome tooLarge done = false
-sameOutcome tooLarge spent = false
-sameOutcome tooLarge tooLarge = true
-
-unfoldable pub ranAs : Outcome → (steps : ℕ) (reached : Bytes) → Reply Ran → Bool
-ranAs outcome steps reached (given ran) =
-    sameOutcome (ran .outcome) outcome && eqb (ran .steps) steps && sameText (recordBytes (ran .reached)) reached
-ranAs outcome steps reached (refused r) = false
-
--- The reply is these bytes.
-unfoldable pub isText : (text : Bytes) → Reply Bytes → Bool
-isText text (given bytes) = sameText bytes text
-isText text (refused r) = false
-
-unfoldable pub holds : Case → Bool
-holds (forAllRanks book claim) = every (λ ranks. claim ranks (checkRanks book ranks)) (tablesOf (readBook book))
-holds (forRanks book ranks claim) = claim (checkRanks book ranks)
-holds (headed book header) = isText header (block book 0 512)
-holds (prints book text) = sameText (clauseProgram book) text
-holds (runs book ranks record′ budget outcome steps reached) = ranAs outcome steps reached (run book ranks record′ budget 513)
+use Rattle.rewriting.specs.Run.{done, spent}
+use Rattle.demands.specs.Claims.{Case, forAllRanks, forRanks, headed, prints, runs, clears, doesNotClear, gives}
 
 unfoldable pub cases : List Case
 cases =
@@ -102,21 +30,21 @@ cases =
     ∷ forRanks fx-to-gx (0 ∷ 0 ∷ []) (gives (8 at 0))
     ∷ forRanks fx-to-gx (0 ∷ 1 ∷ []) (gives (8 at 0))
     -- 003, Example 1: cleared exactly if f ranks above g
-    ∷ forAllRanks example1 (λ ranks reply. Bool·beq (clears reply) (above ranks 0 1))
+    ∷ forAllRanks example1 (λ ranks reply. elim (above ranks 0 1) [ true ↦ clears reply | false ↦ gives (8 at 0) reply ])
     -- f(x) → g(x), g(x) → f(x): no ranks clear
-    ∷ forAllRanks undoing (λ ranks reply. not (clears reply))
+    ∷ forAllRanks undoing (λ ranks reply. doesNotClear reply)
     -- 003's system of div, i, e: div above i gives 8 at rule 1; i above div, or equal, gives 8 at 0
     ∷ forAllRanks divIE (λ ranks reply. elim (above ranks 0 1) [ true ↦ gives (8 at 1) reply | false ↦ gives (8 at 0) reply ])
     -- m(m(x,y),z) → m(x,m(y,z)) clears with any rank; the reverse with none
     ∷ forAllRanks associative (λ ranks reply. clears reply)
-    ∷ forAllRanks reversed (λ ranks reply. not (clears reply))
+    ∷ forAllRanks reversed (λ ranks reply. doesNotClear reply)
     -- f(x) → x clears with any rank, header `p cnf 4 6`
     ∷ forAllRanks fx-to-x (λ ranks reply. clears reply)
     ∷ headed fx-to-x (ascii "p cnf 4 6\n")
     -- f(x) → f(x), f(x) → y and x → x never clear; the last has header `p cnf 2 4`
-    ∷ forAllRanks fx-to-fx (λ ranks reply. not (clears reply))
-    ∷ forAllRanks fx-to-y (λ ranks reply. not (clears reply))
-    ∷ forAllRanks x-to-x (λ ranks reply. not (clears reply))
+    ∷ forAllRanks fx-to-fx (λ ranks reply. doesNotClear reply)
+    ∷ forAllRanks fx-to-y (λ ranks reply. doesNotClear reply)
+    ∷ forAllRanks x-to-x (λ ranks reply. doesNotClear reply)
     ∷ headed x-to-x (ascii "p cnf 2 4\n")
     -- the book 05 gives `p cnf 0 0` and clears with no ranks; the empty book: 1 at 0
     ∷ headed onlyEnd (ascii "p cnf 0 0\n")

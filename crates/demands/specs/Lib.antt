@@ -2,4 +2,5 @@ pub mod EntryPoints
 pub mod Demand1
 pub mod Demand2
 pub mod Demand3
+pub mod Claims
 pub mod Cases

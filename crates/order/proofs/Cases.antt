@@ -1,18 +1,32 @@
--- Cases of the order, computed. Assumes nothing.
+-- Cases of the order and the rank check, computed; the easy slips of document 01 fail here. Assumes nothing.
 use Prim.Native.Nat.{ℕ}
 use mathlib.Core.Path.{_≡_, refl}
 use mathlib.Core.List.{List, [], _∷_}
-use Rattle.reply.specs.Reply.{Reply, given, refused, _at_}
+use Rattle.reply.specs.Reply.{given, refused, _at_}
+use Rattle.book.specs.Examples.{divIE, forgetful, fx-to-gx, fx-to-x, undoing}
 use Rattle.order.specs.Clearing.{checkRanks}
 use Rattle.order.specs.Computing.{computing}
 
-fx-gx : List ℕ
-fx-gx = 1 ∷ 1 ∷ 1 ∷ 1 ∷ 2 ∷ 3 ∷ 0 ∷ 4 ∷ 0 ∷ 3 ∷ 1 ∷ 4 ∷ 0 ∷ 5 ∷ []
+equal-ranks-are-unrelated : checkRanks divIE (1 ∷ 1 ∷ 0 ∷ []) ≡ refused (8 at 0)
+unfolding computing
+equal-ranks-are-unrelated = refl
 
-c1 : checkRanks fx-gx (1 ∷ 0 ∷ []) ≡ given tt
-unfolding computing fx-gx
-c1 = refl
+later-arguments-count : checkRanks forgetful (1 ∷ 0 ∷ []) ≡ refused (8 at 0)
+unfolding computing
+later-arguments-count = refl
 
-c2 : checkRanks fx-gx (0 ∷ 0 ∷ []) ≡ refused (8 at 0)
-unfolding computing fx-gx
-c2 = refl
+an-identical-argument-suffices : checkRanks fx-to-x (0 ∷ []) ≡ given tt
+unfolding computing
+an-identical-argument-suffices = refl
+
+any-byte-is-a-rank : checkRanks fx-to-gx (255 ∷ 254 ∷ []) ≡ given tt
+unfolding computing
+any-byte-is-a-rank = refl
+
+as-many-ranks-as-symbols : checkRanks fx-to-gx (1 ∷ 0 ∷ 0 ∷ []) ≡ refused (7 at 0)
+unfolding computing
+as-many-ranks-as-symbols = refl
+
+the-lowest-rule-that-fails : checkRanks undoing (1 ∷ 0 ∷ []) ≡ refused (8 at 1)
+unfolding computing
+the-lowest-rule-that-fails = refl
