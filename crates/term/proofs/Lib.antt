@@ -1,2 +1,4 @@
-pub mod Same
 pub mod Cases
+pub mod Same
+pub mod Given
+pub mod Prefix
