@@ -41,6 +41,7 @@ pub record TreesOf (arities : List ℕ) (missing : ℕ) (nodes : List Node) (ts 
   pub overSymbols : T (overs arities (args ts))
   pub nodeCount : sizes (args ts) ≡ length nodes
   pub variables : (x : ℕ) → OccursIn x (args ts) → List·Memᴰ (variable x) nodes
+  pub occurring : (x : ℕ) → List·Memᴰ (variable x) nodes → OccursIn x (args ts)
   pub bytes : prefixes (args ts) ≡ nodesBytes nodes
 
 module _ {arities : List ℕ} {Variable : ℕ → Type 0} where
@@ -123,6 +124,17 @@ unfolding args
 occurs-behind x [] behind o = o
 occurs-behind x (t ∷ front) behind o = later (occurs-behind x front behind o)
 
+-- What occurs among all the trees still does once those in front stand under a symbol.
+occurs-under : (x f : ℕ) (front behind : List Term) → OccursIn x (args (front ++ behind)) → OccursIn x (args (app f (args front) ∷ behind))
+unfolding args
+occurs-under x f [] behind o = later o
+occurs-under x f (t ∷ front) behind (first o) = first (under (first o))
+occurs-under x f (t ∷ front) behind (later o) = deeper (occurs-under x f front behind o)
+  where
+    deeper : OccursIn x (args (app f (args front) ∷ behind)) → OccursIn x (args (app f (args (t ∷ front)) ∷ behind))
+    deeper (first (under o′)) = first (under (later o′))
+    deeper (later o′) = later o′
+
 -- A declared symbol with as many arguments as its arity says.
 pub over-app : (arities : List ℕ) (f : ℕ) (ts : Args) → f < length arities → getD arities f 0 ≡ count ts → T (overs arities ts) → T (over arities (app f ts))
 unfolding over
@@ -150,12 +162,16 @@ symbol-ahead arities f missing nodes front behind d lf lb r =
             | first (under o′) ↦ List·Memᴰ·tail (r .variables x (occurs-front x front behind o′))
             | later o′ ↦ List·Memᴰ·tail (r .variables x (occurs-behind x front behind o′))
           ];
+      occurring = λ x m. elim m [ List·Memᴰ·head e ↦ absurd (let z : _≡_ {A = ℕ} 0 1 = cc e in omega arith) | List·Memᴰ·tail m′ ↦ occurs-under x f front behind (r .occurring x m′) ];
       bytes = ap (λ (l : List ℕ). 3 ∷ f ∷ l) (sym (prefixes-append front behind) ∙ r .bytes);
     }
 
 -- Only x itself occurs in the variable x.
 occurs-var : {x y : ℕ} → Occurs y (var x) → y ≡ x
 occurs-var it = refl
+
+var-occurs : {x y : ℕ} → y ≡ x → Occurs y (var x)
+var-occurs {y = y} e = subst (λ (z : ℕ). Occurs y (var z)) e it
 
 variable-ahead :
     (arities : List ℕ) (x missing : ℕ) (nodes : List Node) (ts : List Term) → TreesOf arities missing nodes ts →
@@ -167,6 +183,7 @@ variable-ahead arities x missing nodes ts r =
       overSymbols = r .overSymbols;
       nodeCount = omega (arith, r .nodeCount);
       variables = λ y o. elim o [ first o′ ↦ List·Memᴰ·head (ap variable (occurs-var o′)) | later o′ ↦ List·Memᴰ·tail (r .variables y o′) ];
+      occurring = λ y m. elim m [ List·Memᴰ·head e ↦ first (var-occurs {x = x} {y = y} (cc e)) | List·Memᴰ·tail m′ ↦ later (r .occurring y m′) ];
       bytes = ap (λ (l : List ℕ). 4 ∷ x ∷ l) (r .bytes);
     }
 
@@ -176,7 +193,7 @@ pub trees-fill :
     TreesOf arities missing nodes (trees arities nodes)
 unfolding trees onto arityOf over size prefix args nodesBytes
 trees-fill arities Variable noNode e =
-    record { number = sym e; overSymbols = tt; nodeCount = refl; variables = λ x o. elim o [ ]; bytes = refl }
+    record { number = sym e; overSymbols = tt; nodeCount = refl; variables = λ x o. elim o [ ]; occurring = λ x m. elim m [ ]; bytes = refl }
 trees-fill arities Variable (node {missing} {nodes = nodes} (declared {f} d) l) e =
     let r : TreesOf arities (missing + getD arities f 0) nodes (trees arities nodes) = trees-fill arities Variable l e in
     let k : getD arities f 0 ≤ length (trees arities nodes) = omega (arith, r .number) in
@@ -192,6 +209,7 @@ pub record TreeOf (arities : List ℕ) (nodes : List Node) (t : Term) : Type 0 w
   pub overSymbols : T (over arities t)
   pub nodeCount : size t ≡ length nodes
   pub variables : (x : ℕ) → Occurs x t → List·Memᴰ (variable x) nodes
+  pub occurring : (x : ℕ) → List·Memᴰ (variable x) nodes → Occurs x t
   pub bytes : prefix t ≡ nodesBytes nodes
 
 -- One tree alone.
@@ -203,6 +221,7 @@ tree-alone arities nodes (t ∷ []) r =
       overSymbols = and-left (over arities t) true (r .overSymbols);
       nodeCount = omega (arith, r .nodeCount);
       variables = λ x o. r .variables x (first o);
+      occurring = λ x m. elim (r .occurring x m) [ first o ↦ o | later o ↦ elim o [ ] ];
       bytes = sym (append-nil (prefix t)) ∙ r .bytes;
     }
 tree-alone arities nodes (t ∷ u ∷ ts) r = absurd (omega (arith, r .number))

@@ -1,0 +1,280 @@
+-- Demand 1: every reply of the six entry points is a result or a refusal with one of its numbers, and a refusal leaves the lent buffer. By
+-- what each question may refuse with, question by question. Assumes nothing.
+use Prim.Native.Nat.{ℕ, zero, suc, _+_, _*_}
+use mathlib.Core.Bool.{Bool, true, false, _&&_, _||_}
+use mathlib.Core.List.{List, [], _∷_, List·Memᴰ, List·Memᴰ·head, List·Memᴰ·tail}
+use mathlib.Core.Option.{Option, none, some}
+use mathlib.Core.Path.{_≡_, refl, ap}
+use lib.Dec.{T, leb, eqb, eqb→eq}
+use lib.ListN.{length, getD}
+use Rattle.reply.specs.Reply.{Refusal, Attempt, Reply, given, refused, unless, toldAs, _>>_, _>>=_, _at_}
+use Rattle.reply.specs.Lent.{laid}
+use Rattle.term.specs.Term.{Term, Args, var, app, nil, cons, size}
+use Rattle.term.proofs.Same.{and-left, and-right}
+use Rattle.book.specs.Book.{Book, Rule}
+use Rattle.book.specs.Reading.{State, recordAt, ended, readFrom, start, readBook}
+use Rattle.book.specs.Record.{Fault, endedEarly, wrongKind, notDeclared, tooManyNodes, afterTheTerm, refusalOf, readRecord}
+use Rattle.order.specs.Clearing.{allDecrease, ranksClear, checkRanks}
+use Rattle.clauses.specs.Cnf.{Literal}
+use Rattle.clauses.specs.Item.{Item, closing, literal, faulty}
+use Rattle.clauses.specs.File.{numberedBlock, block}
+use Rattle.answer.specs.Values.{Values, unclosed, closed, variableOf, named, itemAfter, itemsAfter}
+use Rattle.answer.specs.Lines.{Line, comment, verdict, values, noLine, Said, nothing, satisfied, noModel, verdictAfter, valuesAfter, lineAfter, linesAfter, lineOf, whole, readAnswer}
+use Rattle.answer.specs.Ranks.{answered, ranksFromAnswer}
+use Rattle.rewriting.specs.Run.{ranOn, run}
+use Rattle.rewriting.specs.Argument.{partOf, argumentOf, argument}
+use Rattle.demands.specs.EntryPoints.{Bytes, EntryPoint, bufferAfter, readingABook, aBlock, checkingRanks, ranksOfAnAnswer, aRun, anArgument, entryPoints}
+use Rattle.demands.specs.Demand1.{ResultOrRefusal, Demanded, Demand1}
+
+-- A reply that refuses only with these numbers.
+data Only (numbers : List ℕ) {A : Type 0} : Reply A → Type 0 where
+  result : {a : A} → Only numbers (given a)
+  refusal : {r : Refusal} → List·Memᴰ (r .number) numbers → Only numbers (refused r)
+
+-- Numbers among others, by computing: below, `tt` says that a refusal's number is on the list.
+abbrev isAmong : ℕ → List ℕ → Bool
+isAmong n [] = false
+isAmong n (m ∷ numbers) = eqb n m || isAmong n numbers
+
+abbrev areAmong : List ℕ → List ℕ → Bool
+areAmong [] numbers = true
+areAmong (n ∷ few) numbers = isAmong n numbers && areAmong few numbers
+
+among : (n : ℕ) (numbers : List ℕ) → T (isAmong n numbers) → List·Memᴰ n numbers
+among n [] h = absurd h
+among n (m ∷ numbers) h = go (eqb n m) (eqb→eq n m) (among n numbers) h
+  where
+    go : (first : Bool) → (T first → n ≡ m) → (T (isAmong n numbers) → List·Memᴰ n numbers) → T (first || isAmong n numbers) → List·Memᴰ n (m ∷ numbers)
+    go true here later h′ = List·Memᴰ·head (here h′)
+    go false here later h′ = List·Memᴰ·tail (later h′)
+
+all-among : (few many : List ℕ) → T (areAmong few many) → (n : ℕ) → List·Memᴰ n few → List·Memᴰ n many
+all-among [] many h n m = elim m [ ]
+all-among (k ∷ few) many h n (List·Memᴰ·head e) = rw e (among k many (and-left (isAmong k many) (areAmong few many) h))
+all-among (k ∷ few) many h n (List·Memᴰ·tail m) = all-among few many (and-right (isAmong k many) (areAmong few many) h) n m
+
+module _ {A : Type 0} where
+  -- The same with more numbers allowed.
+  more : {few : List ℕ} {x : Reply A} (many : List ℕ) → T (areAmong few many) → Only few x → Only many x
+  more many h result = result
+  more many h (refusal m) = refusal (all-among _ many h _ m)
+
+  -- One of two replies, as a test says.
+  either :
+      {numbers : List ℕ} {x y : Reply A} (b : Bool) → Only numbers x → Only numbers y →
+      Only numbers {A = A} (elim b [ true ↦ x | false ↦ y ])
+  either true whenTrue whenFalse = whenTrue
+  either false whenTrue whenFalse = whenFalse
+
+  only→result-or-refusal : {numbers : List ℕ} {x : Reply A} → Only numbers x → ResultOrRefusal numbers x
+  unfolding ResultOrRefusal
+  only→result-or-refusal result = tt
+  only→result-or-refusal (refusal m) = m
+
+module _ {A B : Type 0} {numbers : List ℕ} where
+  -- A question that is asked only of what was given.
+  after : {first : Reply A} {next : A → Reply B} → Only numbers first → ((a : A) → Only numbers (next a)) → Only numbers (_>>=_ first next)
+  unfolding _>>=_
+  after result rest = rest _
+  after (refusal m) rest = refusal m
+
+  then : {first : Reply A} {next : Reply B} → Only numbers first → Only numbers next → Only numbers (_>>_ first next)
+  unfolding _>>_
+  then result rest = rest
+  then (refusal m) rest = refusal m
+
+module _ {numbers : List ℕ} where
+  unless-only : (b : Bool) (r : Refusal) → List·Memᴰ (r .number) numbers → Only numbers (unless b r)
+  unfolding unless
+  unless-only true r m = result
+  unless-only false r m = refusal m
+
+  -- A test whose refusal has one of the numbers, and the questions behind it.
+  test : {B : Type 0} (b : Bool) (r : Refusal) {next : Reply B} → T (isAmong (r .number) numbers) → Only numbers next → Only numbers (_>>_ (unless b r) next)
+  test b r h rest = then (unless-only b r (among (r .number) numbers h)) rest
+
+  refusal-with : {A : Type 0} (r : Refusal) → T (isAmong (r .number) numbers) → Only numbers {A = A} (refused r)
+  refusal-with r h = refusal (among (r .number) numbers h)
+
+-- Reading a book.
+abbrev reading : List ℕ
+reading = 1 ∷ 2 ∷ 3 ∷ 4 ∷ 5 ∷ 6 ∷ []
+
+record-only : (len : ℕ) (s : State) (p k b : ℕ) → Only reading (recordAt len s p k b)
+unfolding recordAt
+record-only len s p k b = test _ _ tt (test _ _ tt (test _ _ tt (test _ _ tt (test _ _ tt result))))
+
+ended-only : (s : State) (p : ℕ) (bytes : List ℕ) → Only reading (ended s p bytes)
+unfolding ended
+ended-only s p [] = result
+ended-only s p (b ∷ bytes) = refusal-with _ tt
+
+from-only : (fuel len : ℕ) (s : State) (p : ℕ) (bytes : List ℕ) → Only reading (readFrom fuel len s p bytes)
+unfolding readFrom
+from-only zero len s p bytes = refusal-with _ tt
+from-only (suc fuel) len s p [] = refusal-with _ tt
+from-only (suc fuel) len s p (k ∷ bytes) =
+    after (record-only len s p k (getD bytes 0 0)) (λ s′. either (eqb k 5) (ended-only s′ (p + 1) bytes) (from-only fuel len s′ _ _))
+
+book-only : (bytes : Bytes) → Only reading (readBook bytes)
+unfolding readBook
+book-only bytes = from-only (length bytes) (length bytes) start 0 bytes
+
+-- A block.
+numbered-only : (found : Option Bytes) → Only (10 ∷ []) (numberedBlock found)
+unfolding numberedBlock
+numbered-only none = refusal-with _ tt
+numbered-only (some bytes) = result
+
+block-only : (book : Bytes) (number room : ℕ) → Only (1 ∷ 2 ∷ 3 ∷ 4 ∷ 5 ∷ 6 ∷ 10 ∷ 9 ∷ []) (block book number room)
+unfolding block
+block-only book number room =
+    after (more _ tt (book-only book)) (λ b. after (more _ tt (numbered-only _)) (λ bytes. test _ _ tt result))
+
+-- Checking ranks.
+decrease-only : (ranks : Bytes) (number : ℕ) (rules : List Rule) → Only (8 ∷ []) (allDecrease ranks number rules)
+unfolding allDecrease
+decrease-only ranks number [] = result
+decrease-only ranks number (rule ∷ rules) = test _ _ tt (decrease-only ranks (suc number) rules)
+
+clear-only : (book : Book) (ranks : Bytes) → Only (7 ∷ 8 ∷ []) (ranksClear book ranks)
+unfolding ranksClear
+clear-only book ranks = test _ _ tt (more _ tt (decrease-only ranks 0 (book .rules)))
+
+check-only : (book ranks : Bytes) → Only (1 ∷ 2 ∷ 3 ∷ 4 ∷ 5 ∷ 6 ∷ 7 ∷ 8 ∷ []) (checkRanks book ranks)
+unfolding checkRanks
+check-only book ranks = after (more _ tt (book-only book)) (λ b. more _ tt (clear-only b ranks))
+
+-- Reading a record.
+fault-number : (fault : Fault) → (refusalOf fault) .number ≡ 11
+unfolding refusalOf
+fault-number (endedEarly p) = refl
+fault-number (wrongKind p) = refl
+fault-number (notDeclared p) = refl
+fault-number (tooManyNodes p) = refl
+fault-number (afterTheTerm p) = refl
+
+told-only : {A : Type 0} (x : Attempt Fault A) → Only (11 ∷ []) (toldAs refusalOf x)
+unfolding toldAs
+told-only (given a) = result
+told-only (refused fault) = refusal (List·Memᴰ·head (fault-number fault))
+
+term-only : (book : Book) (bytes : Bytes) → Only (11 ∷ []) (readRecord book bytes)
+unfolding readRecord
+term-only book bytes = told-only _
+
+-- A run.
+run-only : (book ranks record′ : Bytes) (budget room : ℕ) → Only (1 ∷ 2 ∷ 3 ∷ 4 ∷ 5 ∷ 6 ∷ 7 ∷ 8 ∷ 11 ∷ 9 ∷ []) (run book ranks record′ budget room)
+unfolding run ranOn
+run-only book ranks record′ budget room =
+    after (more _ tt (book-only book))
+    (λ b. then (more _ tt (clear-only b ranks)) (after (more _ tt (term-only b record′)) (λ t. test _ _ tt result)))
+
+-- An argument.
+part-only : (p : ℕ) (ts : Args) (i : ℕ) → Only (15 ∷ []) (partOf p ts i)
+unfolding partOf
+part-only p nil i = refusal-with _ tt
+part-only p (cons t ts) zero = result
+part-only p (cons t ts) (suc i) = part-only (p + 2 * size t) ts i
+
+argument-of-only : (t : Term) (i : ℕ) → Only (15 ∷ []) (argumentOf t i)
+unfolding argumentOf
+argument-of-only (var x) i = refusal-with _ tt
+argument-of-only (app f ts) i = part-only 2 ts i
+
+argument-only : (book record′ : Bytes) (i : ℕ) → Only (1 ∷ 2 ∷ 3 ∷ 4 ∷ 5 ∷ 6 ∷ 11 ∷ 15 ∷ []) (argument book record′ i)
+unfolding argument
+argument-only book record′ i = after (more _ tt (book-only book)) (λ b. after (more _ tt (term-only b record′)) (λ t. more _ tt (argument-of-only t i)))
+
+-- A solver's answer: each line is refused with its own fault, 13 at its start.
+module _ (fault : Refusal) (is13 : List·Memᴰ (fault .number) (13 ∷ [])) (rankVariables : ℕ) where
+  named-only : (l : Literal) (ls : List Literal) → Only (13 ∷ []) (named fault rankVariables l ls)
+  unfolding named
+  named-only l ls = either (leb (variableOf l) rankVariables) (then (unless-only _ fault is13) result) result
+
+  item-only : (vs : Values) (i : Item) → Only (13 ∷ []) (itemAfter fault rankVariables vs i)
+  unfolding itemAfter
+  item-only (closed ls) i = refusal is13
+  item-only (unclosed ls) closing = result
+  item-only (unclosed ls) (literal l) = named-only l ls
+  item-only (unclosed ls) faulty = refusal is13
+
+  items-only : (variables : ℕ) (vs : Values) (items : List Bytes) → Only (13 ∷ []) (itemsAfter fault variables rankVariables vs items)
+  unfolding itemsAfter
+  items-only variables vs [] = result
+  items-only variables vs (i ∷ items) = after (item-only vs _) (λ vs′. items-only variables vs′ items)
+
+  verdict-only : (said : Said) (satisfiable : Bool) → Only (13 ∷ []) (verdictAfter fault said satisfiable)
+  unfolding verdictAfter
+  verdict-only nothing true = result
+  verdict-only nothing false = result
+  verdict-only (satisfied vs) b = refusal is13
+  verdict-only noModel b = refusal is13
+
+  values-only : (variables : ℕ) (said : Said) (items : List Bytes) → Only (13 ∷ []) (valuesAfter fault variables rankVariables said items)
+  unfolding valuesAfter
+  values-only variables nothing items = refusal is13
+  values-only variables (satisfied vs) items = after (items-only variables vs items) (λ vs′. result)
+  values-only variables noModel items = refusal is13
+
+  line-only : (variables : ℕ) (said : Said) (line : Line) → Only (13 ∷ []) (lineAfter fault variables rankVariables said line)
+  unfolding lineAfter
+  line-only variables said comment = result
+  line-only variables said (verdict b) = verdict-only said b
+  line-only variables said (values items) = values-only variables said items
+  line-only variables said noLine = refusal is13
+
+lines-only : (variables rankVariables p : ℕ) (said : Said) (lines : List Bytes) → Only (13 ∷ []) (linesAfter variables rankVariables p said lines)
+unfolding linesAfter
+lines-only variables rankVariables p said [] = result
+lines-only variables rankVariables p said (line ∷ lines) =
+    after (line-only (13 at p) (List·Memᴰ·head refl) rankVariables variables said (lineOf line))
+    (λ said′. lines-only variables rankVariables (p + length line + 1) said′ lines)
+
+whole-only : (len : ℕ) (said : Said) → Only (13 ∷ 14 ∷ []) (whole len said)
+unfolding whole
+whole-only len nothing = refusal-with _ tt
+whole-only len (satisfied (unclosed ls)) = refusal-with _ tt
+whole-only len (satisfied (closed ls)) = result
+whole-only len noModel = refusal-with _ tt
+
+answer-only :
+    (book text : Bytes) (room : ℕ) → Only (1 ∷ 2 ∷ 3 ∷ 4 ∷ 5 ∷ 6 ∷ 12 ∷ 13 ∷ 14 ∷ 9 ∷ 8 ∷ []) (ranksFromAnswer book text room)
+unfolding ranksFromAnswer answered readAnswer
+answer-only book text room =
+    after (more _ tt (book-only book))
+    (λ b. test _ _ tt
+    (after (after (more _ tt (lines-only _ _ 0 nothing _)) (λ said. more _ tt (whole-only _ said)))
+    (λ literals. test _ _ tt (then (more _ tt (decrease-only _ 0 (b .rules))) result))))
+
+-- "A refusal changes no byte of any lent buffer."
+refusal-leaves : (e : EntryPoint) (asked : e .Asked) (buffer : Bytes) (r : Refusal) → e .reply asked ≡ refused r → bufferAfter e asked buffer ≡ buffer
+unfolding bufferAfter laid _>>=_
+refusal-leaves e asked buffer r p = ap (λ (x : Reply (e .Result)). laid (_>>=_ x (λ given-result. given (e .written given-result))) buffer) p
+
+demanded : (e : EntryPoint) → ((asked : e .Asked) → Only (e .numbers) (e .reply asked)) → Demanded e
+demanded e only = record { replies = λ asked. only→result-or-refusal (only asked); untouched = refusal-leaves e }
+
+-- What is demanded of each entry point of a list.
+data Each : List EntryPoint → Type 1 where
+  noMore : Each []
+  also : {e : EntryPoint} {es : List EntryPoint} → Demanded e → Each es → Each (e ∷ es)
+
+each→ : {e : EntryPoint} {es : List EntryPoint} → Each es → List·Memᴰ e es → Demanded e
+each→ noMore m = elim m [ ]
+each→ (also d each) (List·Memᴰ·head p) = rw p d
+each→ (also d each) (List·Memᴰ·tail m) = each→ each m
+
+each : Each entryPoints
+unfolding entryPoints readingABook aBlock checkingRanks ranksOfAnAnswer aRun anArgument
+each =
+    also (demanded readingABook book-only)
+    (also (demanded aBlock (λ asked. block-only (asked .0) (asked .1) (asked .2)))
+    (also (demanded checkingRanks (λ asked. check-only (asked .0) (asked .1)))
+    (also (demanded ranksOfAnAnswer (λ asked. answer-only (asked .0) (asked .1) (asked .2)))
+    (also (demanded aRun (λ asked. run-only (asked .0) (asked .1) (asked .2) (asked .3) (asked .4)))
+    (also (demanded anArgument (λ asked. argument-only (asked .0) (asked .1) (asked .2))) noMore)))))
+
+pub demand1 : Demand1
+unfolding Demand1
+demand1 e m = each→ each m
