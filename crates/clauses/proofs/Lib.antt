@@ -1,2 +1,15 @@
 pub mod Cases
 pub mod Equations
+pub mod Numbered
+pub mod Positions
+pub mod Digits
+pub mod Assigned
+pub mod RankBits
+pub mod ClauseLists
+pub mod PairsSatisfied
+pub mod Satisfied
+pub mod Larger
+pub mod Subterms
+pub mod Mirror
+pub mod RanksExtend
+pub mod RankBitsClear
