@@ -1,1 +1,5 @@
 pub mod Cases
+pub mod Tests
+pub mod Every
+pub mod Decimal
+pub mod Words

@@ -1,0 +1,134 @@
+-- Demand 2: the clause file, the rank check and a run mean what document 01 says. The file's bytes are read back to its clauses, which hold
+-- exactly if their equations do; those are the order's. Assumes nothing.
+use Prim.Native.Nat.{ℕ, _≤_, _<_, _^_}
+use mathlib.Core.List.{List, List·Memᴰ, flatten}
+use mathlib.Core.Option.{Option, some}
+use mathlib.Core.Path.{_≡_, sym, ap, ap₂, subst, _∙_}
+use native.Mathlib.Nat.{lt-of-lt-of-le}
+use lib.Dec.{T}
+use lib.ListN.{length}
+use Rattle.reply.specs.Reply.{given}
+use Rattle.term.specs.Tables.{rankBits}
+use Rattle.term.proofs.Tables.{rank-bits-least}
+use Rattle.term.specs.Term.{Term}
+use Rattle.book.specs.Book.{Book, Rule, symbols}
+use Rattle.book.specs.Reading.{readBook}
+use Rattle.book.specs.Record.{readRecord}
+use Rattle.book.specs.Limits.{WithinLimits}
+use Rattle.book.proofs.ReadBook.{read-within-limits}
+use Rattle.order.specs.Precedence.{StrictPrecedence, Above}
+use Rattle.order.specs.Clearing.{Clears}
+use Rattle.order.proofs.Checked.{accepted-exactly}
+use Rattle.order.proofs.RanksOfPrecedence.{ranks-strict}
+use Rattle.clauses.specs.Cnf.{Cnf, Assignment, Satisfies, allHold}
+use Rattle.clauses.specs.Numbering.{ranksOf}
+use Rattle.clauses.specs.Blocks.{blocks}
+use Rattle.clauses.specs.File.{clauseFile, fileBytes, clauseProgram}
+use Rattle.clauses.specs.Dimacs.{readDimacs}
+use Rattle.clauses.proofs.Equations.{Equations}
+use Rattle.clauses.proofs.Satisfied.{satisfied-exactly}
+use Rattle.clauses.proofs.RankBitsClear.{satisfying-clears}
+use Rattle.clauses.proofs.Assigned.{assigned, ranks-of-assigned}
+use Rattle.clauses.proofs.RanksExtend.{clearing-satisfies}
+use Rattle.clauses.proofs.Dimacs.{file-reads-back, program-prints}
+use Rattle.answer.proofs.Checked.{answers-are-checked}
+use Rattle.rewriting.specs.Step.{OwnSteps}
+use Rattle.rewriting.specs.Run.{Ran, Means, run, runFrom}
+use Rattle.rewriting.proofs.OwnStep.{own-step-is-free}
+use Rattle.rewriting.proofs.Run.{run-yields}
+use Rattle.demands.specs.EntryPoints.{Bytes}
+use Rattle.demands.specs.Demand2.{
+  SatisfyingAssignment,
+  SomePrecedenceClears,
+  rankBitsOf,
+  SatisfiableExactlyIfCleared,
+  RankBitsClear,
+  ClearingRanksExtend,
+  AcceptedExactlyIfDecreasing,
+  AnswersAreChecked,
+  RunYields,
+  OwnStepIsFree,
+  Demand2,
+}
+use Rattle.demands.proofs.Demand3.{clearing-ranks, Accepted, accepted}
+
+-- A satisfying assignment of the file is one of the book's equations, and the other way round.
+equations-of :
+    (bytes : Bytes) (book : Book) (α : Assignment) → readBook bytes ≡ given book → SatisfyingAssignment (clauseProgram bytes) α → Equations book α
+unfolding Satisfies clauseFile
+equations-of bytes book α read found =
+    let back : readDimacs (clauseProgram bytes) ≡ some (clauseFile book) =
+    ap readDimacs (program-prints bytes book read) ∙ file-reads-back book (read-within-limits bytes book read) in
+    let same : found .clauses ≡ clauseFile book = cc (found .reads) in
+    satisfied-exactly book α .0 (subst (λ (cnf : Cnf). T (allHold α (cnf .clauses))) same (found .satisfies))
+
+satisfying : (bytes : Bytes) (book : Book) (α : Assignment) → readBook bytes ≡ given book → Equations book α → SatisfyingAssignment (clauseProgram bytes) α
+unfolding Satisfies clauseFile
+satisfying bytes book α read equations =
+    record {
+      clauses = clauseFile book;
+      reads = ap readDimacs (program-prints bytes book read) ∙ file-reads-back book (read-within-limits bytes book read);
+      satisfies = satisfied-exactly book α .1 equations;
+    }
+
+rank-bits-clear : RankBitsClear
+unfolding RankBitsClear rankBitsOf
+rank-bits-clear bytes book α read found = satisfying-clears book (read-within-limits bytes book read) α (equations-of bytes book α read found)
+
+ranks-extend : ClearingRanksExtend
+unfolding ClearingRanksExtend rankBitsOf
+ranks-extend bytes book ranks read many fit clears = (
+  assigned book ranks,
+  satisfying bytes book (assigned book ranks) read (clearing-satisfies book (read-within-limits bytes book read) ranks many fit clears),
+  ranks-of-assigned book ranks many fit,
+)
+
+-- Ranks below n fit the rank bits.
+fit-the-bits :
+    (book : Book) → WithinLimits book → (ranks : List ℕ) → ((rank : ℕ) → List·Memᴰ rank ranks → rank < symbols book) →
+    (rank : ℕ) → List·Memᴰ rank ranks → rank < 2 ^ rankBits (symbols book)
+fit-the-bits book limits ranks below rank m = lt-of-lt-of-le (below rank m) (rank-bits-least (symbols book) (limits .symbolCount) .0)
+
+satisfiable-exactly : SatisfiableExactlyIfCleared
+unfolding SatisfiableExactlyIfCleared rankBitsOf RankBitsClear
+satisfiable-exactly bytes book read = (cleared, assignment)
+  where
+    cleared : ((α : Assignment) × SatisfyingAssignment (clauseProgram bytes) α) → SomePrecedenceClears book
+    cleared (α, found) =
+        record {
+          above = Above (rankBitsOf book α);
+          strict = ranks-strict (symbols book) (rankBitsOf book α);
+          clears = rank-bits-clear bytes book α read found;
+        }
+
+    assignment : SomePrecedenceClears book → (α : Assignment) × SatisfyingAssignment (clauseProgram bytes) α
+    assignment p =
+        let limits = read-within-limits bytes book read in
+        let (ranks, many, below, clears) = clearing-ranks book limits p in (
+          assigned book ranks,
+          satisfying bytes book (assigned book ranks) read
+              (clearing-satisfies book limits ranks many (fit-the-bits book limits ranks below) clears),
+        )
+
+run-yields-both : RunYields
+unfolding RunYields
+run-yields-both bytes ranks record′ budget room book t ran read recorded e =
+    let a = accepted bytes ranks record′ budget room ran e in
+    let same : a .book ≡ book = cc (a .readable) in
+    let itsTerm : a .term ≡ t = cc (sym (a .recorded) ∙ ap (λ b. readRecord b record′) same ∙ recorded) in
+    subst
+    (λ (r : Ran). OwnSteps (book .rules) (r .steps) t (r .reached) × Means (r .outcome) (book .rules) budget (r .steps) (r .reached))
+    (ap₂ (λ (b : Book) (u : Term). runFrom (b .rules) budget 0 u) (sym same) (sym itsTerm) ∙ a .runs) (run-yields (book .rules) budget t)
+
+pub demand2 : Demand2
+unfolding AcceptedExactlyIfDecreasing AnswersAreChecked OwnStepIsFree
+demand2 =
+    record {
+      satisfiable = satisfiable-exactly;
+      rankBitsClear = rank-bits-clear;
+      ranksExtend = ranks-extend;
+      accepted = accepted-exactly;
+      answers = answers-are-checked;
+      runs = run-yields-both;
+      ownSteps = own-step-is-free;
+    }
