@@ -1,9 +1,9 @@
 -- Binary digits of a rank: its low digits add up to its remainder, and of two ranks the low digits are compared from the highest down.
 -- Assumes nothing.
-use Prim.Native.Nat.{ℕ, zero, suc, _+_, _*_, _/_, _%_, _^_, _≤_, _<_}
-use mathlib.Core.Bool.{Bool, false, not, _&&_, _||_, Bool·beq}
-use mathlib.Core.Path.{_≡_, sym, ap, ap₂, _∙_}
-use native.Mathlib.Nat.{mod-lt, one-mul, zero-mul}
+use Prim.Native.Nat.{ℕ, zero, suc, _+_, _-_, _*_, _/_, _%_, _^_, _≤_, _<_}
+use mathlib.Core.Bool.{Bool, true, false, not, _&&_, _||_, Bool·beq}
+use mathlib.Core.Path.{_≡_, refl, sym, ap, ap₂, subst, _∙_}
+use native.Mathlib.Nat.{mod-lt, mod-eq-of-lt, one-mul, zero-mul}
 use native.Mathlib.Numerals.{one-add}
 use native.Mathlib.Omega.{arith}
 use borrow.Author.Tests.{le-ltb}
@@ -11,7 +11,7 @@ use lib.Dec.{ltb}
 use lib.Pow.{pow-pos, mod-pow-add}
 use Rattle.clauses.specs.Cnf.{Assignment}
 use Rattle.clauses.specs.Numbering.{bit, rankBelow}
-use Rattle.clauses.proofs.Larger.{topped, rankBelow-topped, topped-smaller}
+use Rattle.clauses.proofs.Larger.{topped, rankBelow-topped, rankBelow-bound, topped-smaller}
 
 -- Binary digit b of r.
 unfoldable pub digit : (r b : ℕ) → Bool
@@ -52,3 +52,36 @@ digits-add-up k α f r digits (suc b) h =
     rankBelow-topped k α f b
     ∙ ap₂ (λ (set : Bool) (rest : ℕ). topped set (2 ^ b) rest) (digits b h) (digits-add-up k α f r digits b (omega arith))
     ∙ sym (low-digits r b)
+
+-- And an assignment's bits are the digits of the rank that they add up to.
+topped-apart : (a b : Bool) (p x y : ℕ) → x < p → y < p → topped a p x ≡ topped b p y → (a ≡ b) × (x ≡ y)
+unfolding topped
+topped-apart true true p x y h l e = (refl, omega arith)
+topped-apart true false p x y h l e = absurd (omega arith)
+topped-apart false true p x y h l e = absurd (omega arith)
+topped-apart false false p x y h l e = (refl, e)
+
+module _ (k : ℕ) (α : Assignment) (f : ℕ) where
+  rank : ℕ
+  rank = rankBelow k α f k
+
+  top-apart : (b : ℕ) → rankBelow k α f (suc b) ≡ rank % 2 ^ suc b → (α (bit k f b) ≡ digit rank b) × (rankBelow k α f b ≡ rank % 2 ^ b)
+  top-apart b e =
+      topped-apart (α (bit k f b)) (digit rank b) (2 ^ b) (rankBelow k α f b) (rank % 2 ^ b) (rankBelow-bound k α f b) (mod-lt rank (pow-pos b))
+      (sym (rankBelow-topped k α f b) ∙ e ∙ low-digits rank b)
+
+  -- From the top down: `up` bits are above the low j.
+  low-rank-below : (up j : ℕ) → j + up ≡ k → rankBelow k α f j ≡ rank % 2 ^ j
+  unfolding rank
+  low-rank-below zero j e =
+      let whole : k ≡ j = omega arith in
+      subst (λ (i : ℕ). rankBelow k α f i ≡ rank % 2 ^ i) whole (sym (mod-eq-of-lt (rankBelow-bound k α f k)))
+  low-rank-below (suc up) j e = top-apart j (low-rank-below up (suc j) (omega arith)) .1
+
+  pub low-rank : (j : ℕ) → j ≤ k → rankBelow k α f j ≡ rankBelow k α f k % 2 ^ j
+  unfolding rank
+  low-rank j h = low-rank-below (k - j) j (omega arith)
+
+  pub bit-is-digit : (b : ℕ) → b < k → α (bit k f b) ≡ digit (rankBelow k α f k) b
+  unfolding rank
+  bit-is-digit b h = top-apart b (low-rank (suc b) h) .0

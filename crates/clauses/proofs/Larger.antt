@@ -10,10 +10,14 @@ use native.Mathlib.Omega.{arith}
 use borrow.Author.Tests.{ltb-true, ltb-false, lt-ltb, le-ltb}
 use lib.Dec.{ltb}
 use lib.ListN.{getD}
+use Rattle.term.specs.Tables.{rankBits}
+use Rattle.book.specs.Book.{Book, symbols}
+use Rattle.book.specs.Limits.{WithinLimits}
 use Rattle.order.specs.Precedence.{above}
 use Rattle.clauses.specs.Cnf.{Assignment}
 use Rattle.clauses.specs.Numbering.{bit, G, numbers, rankBelow, ranksOf}
 use Rattle.clauses.proofs.Equations.{lowBits, PairEquations}
+use Rattle.clauses.proofs.RankBits.{some-bit}
 
 -- A number with one more bit, worth p, on top.
 unfoldable pub topped : Bool → (p rest : ℕ) → ℕ
@@ -88,3 +92,12 @@ pub G-above :
 unfolding above
 G-above n k α h f g lf lg ne pos =
     G-larger n k α h f g k lf lg ne pos (omega arith) ∙ ap₂ ltb (sym (rankOf n k α g lg)) (sym (rankOf n k α f lf))
+
+-- In a book that was read: two symbols have a bit.
+pub G-above-in :
+    (book : Book) → WithinLimits book → (α : Assignment) → PairEquations (symbols book) (rankBits (symbols book)) α →
+    (f g : ℕ) → f < symbols book → g < symbols book → f ≢ g →
+    α (G (symbols book) (rankBits (symbols book)) f g (rankBits (symbols book))) ≡ above (ranksOf (symbols book) (rankBits (symbols book)) α) f g
+G-above-in book limits α h f g lf lg ne =
+    let few = limits .symbolCount in
+    G-above (symbols book) (rankBits (symbols book)) α h f g lf lg ne (some-bit (symbols book) few (omega arith))

@@ -15,6 +15,8 @@ pub mod Positions
 pub mod Digits
 pub mod Assigned
 pub mod RanksExtend
+pub mod EveryNumber
+pub mod ExtendsUniquely
 pub mod Items
 pub mod EachBlock
 pub mod NodesWithin

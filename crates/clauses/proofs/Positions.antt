@@ -1,5 +1,5 @@
 -- Subterms in prefix order: node u of a side stands at position u of the list of its subterms. Assumes nothing.
-use Prim.Native.Nat.{ℕ, suc, _+_, _<_}
+use Prim.Native.Nat.{ℕ, zero, suc, _+_, _<_}
 use mathlib.Core.List.{List, [], _∷_, _++_, List·Memᴰ, List·Memᴰ·head, List·Memᴰ·tail}
 use mathlib.Core.Path.{_≡_, refl, sym, ap, subst}
 use native.Mathlib.Nat.{add-zero}
@@ -80,3 +80,20 @@ module _ (t : Term) (s : Numbered) (m : List·Memᴰ s (subterms 0 t)) where
   pub subterm-at-node : subtermAt t (s .node) ≡ s .term
   unfolding subtermAt
   subterm-at-node = rw (← at-its-node) (ap (λ (x : Numbered). x .term) (here .found))
+
+listed-from : {u : ℕ} {ss : List Numbered} → InOrder u ss → (i : ℕ) → i < length ss →
+    List·Memᴰ (record { node = u + i; term = getD ss i noSubterm .term }) ss
+listed-from none i h = absurd (omega arith)
+listed-from {u} (next {s = s} e o) zero h =
+    let p : u + 0 ≡ s .node = omega arith in
+    List·Memᴰ·head (λ i. record { node = p i; term = s .term })
+listed-from {u} (next {s = s} {ss = ss} e o) (suc i) h =
+    let p : u + suc i ≡ suc u + i = omega arith in
+    List·Memᴰ·tail {xs = ss} (rw p (listed-from o i (omega arith)))
+
+-- Every node is listed.
+pub node-listed : (t : Term) (u : ℕ) → u < size t → List·Memᴰ (record { node = u; term = subtermAt t u }) (subterms 0 t)
+unfolding subtermAt
+node-listed t u h =
+    let p : 0 + u ≡ u = omega arith in
+    rw p at (listed-from (in-order 0 t) u (omega (arith, as-many-subterms 0 t)))

@@ -19,25 +19,27 @@ use Rattle.clauses.specs.Cnf.{Assignment}
 use Rattle.clauses.specs.Numbering.{G, ranksOf}
 use Rattle.clauses.specs.Blocks.{Numbered, subterms, Setting, DAt}
 use Rattle.clauses.proofs.Equations.{RuleEquations, RulesEquations, noRule, andRule, Equations}
-use Rattle.clauses.proofs.Larger.{G-above}
+use Rattle.clauses.proofs.Larger.{G-above-in}
 use Rattle.clauses.proofs.Mirror.{rootCases, AgreesAt, AgreesBelow, root-mirrored, whole-mirrored, agrees-below}
-use Rattle.clauses.proofs.RankBits.{some-bit}
 use Rattle.clauses.proofs.Subterms.{itself-within, subterm-over}
 
 module _ (c : Setting) (α : Assignment) (ranks arities : List ℕ)
     (compared : (f g : ℕ) → f < length arities → g < length arities → f ≢ g → α (G (c .n) (c .k) f g (c .k)) ≡ above ranks f g)
     (rule : Rule) (left : T (over arities (rule .left))) (right : T (over arities (rule .right))) (equations : RuleEquations c α rule) where
+  pub root-agreeing :
+      (s t : Numbered) → List·Memᴰ s (subterms 0 (rule .left)) → List·Memᴰ t (subterms 0 (rule .right)) → AgreesBelow c α ranks s t →
+      α (DAt c (s .node) (t .node)) ≡ rootCases ranks (s .term) (t .term)
+  root-agreeing s t ms mt below =
+      equations .nodes s t ms mt .root
+      ∙ root-mirrored c α ranks arities compared s t (subterm-over arities s (rule .left) 0 left ms) (subterm-over arities t (rule .right) 0 right mt) below
+
   agreeing-at :
       (s t : Numbered) → List·Memᴰ s (subterms 0 (rule .left)) → List·Memᴰ t (subterms 0 (rule .right)) → AgreesBelow c α ranks s t → AgreesAt c α ranks s t
-  agreeing-at s t ms mt below = equations .nodes s t ms mt .whole ∙ sym (whole-mirrored c α ranks s t below root)
-    where
-      root : α (DAt c (s .node) (t .node)) ≡ rootCases ranks (s .term) (t .term)
-      root =
-          equations .nodes s t ms mt .root
-          ∙ root-mirrored c α ranks arities compared s t (subterm-over arities s (rule .left) 0 left ms) (subterm-over arities t (rule .right) 0 right mt) below
+  agreeing-at s t ms mt below =
+      equations .nodes s t ms mt .whole ∙ sym (whole-mirrored c α ranks s t below (root-agreeing s t ms mt below))
 
   -- C agrees with the order at all pairs of the rule's subterms; `bound` is above the sizes of both together.
-  agreeing :
+  pub agreeing :
       (bound : ℕ) (s t : Numbered) → List·Memᴰ s (subterms 0 (rule .left)) → List·Memᴰ t (subterms 0 (rule .right)) →
       size (s .term) + size (t .term) < bound → AgreesAt c α ranks s t
   agreeing zero s t ms mt small = absurd (omega arith)
@@ -74,7 +76,7 @@ pub satisfying-clears :
     Clears (Above (ranksOf (symbols book) (rankBits (symbols book)) α)) (book .rules)
 unfolding symbols
 satisfying-clears book limits α equations =
-    rules-clear n k α (ranksOf n k α) (book .arities) compared (equations .rules)
+    rules-clear n k α (ranksOf n k α) (book .arities) (G-above-in book limits α (equations .pairs)) (equations .rules)
     (λ rule m. (limits .left rule m .overSymbols, limits .right rule m .overSymbols))
   where
     n : ℕ
@@ -82,8 +84,3 @@ satisfying-clears book limits α equations =
 
     k : ℕ
     k = rankBits n
-
-    compared : (f g : ℕ) → f < length (book .arities) → g < length (book .arities) → f ≢ g → α (G n k f g k) ≡ above (ranksOf n k α) f g
-    compared f g lf lg ne =
-        let few = limits .symbolCount in
-        G-above n k α (equations .pairs) f g lf lg ne (some-bit n few (omega arith))

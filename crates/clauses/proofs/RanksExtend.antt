@@ -19,11 +19,10 @@ use Rattle.order.proofs.Decides.{exceeds-decides}
 use Rattle.clauses.specs.Numbering.{G, firstBase, baseAfter, C, D}
 use Rattle.clauses.specs.Blocks.{Numbered, subterms, Setting, CAt, DAt}
 use Rattle.clauses.proofs.Equations.{lowBits, PairEquations, NodeEquations, RulesEquations, Equations, noRule, andRule}
-use Rattle.clauses.proofs.Larger.{G-above}
+use Rattle.clauses.proofs.Larger.{G-above-in}
 use Rattle.clauses.proofs.Subterms.{itself-within}
 use Rattle.clauses.proofs.Mirror.{rootCases, equations-where-agreeing}
 use Rattle.clauses.proofs.Digits.{lowLarger, larger-none, larger-suc}
-use Rattle.clauses.proofs.RankBits.{some-bit}
 use Rattle.clauses.proofs.Assigned.{
   ofRules,
   assignedTo,
@@ -74,10 +73,7 @@ module _
       assigned book ranks (G (symbols book) (rankBits (symbols book)) f g (rankBits (symbols book))) ≡ above ranks f g
   unfolding assigned
   compared f g first second differ =
-      let n = symbols book in
-      let k = rankBits n in
-      let two : 1 < symbols book = omega arith in
-      G-above n k (assigned book ranks) (pairs-hold n k ranks (book .rules)) f g first second differ (some-bit n (limits .symbolCount) two)
+      G-above-in book limits (assigned book ranks) (pairs-hold (symbols book) (rankBits (symbols book)) ranks (book .rules)) f g first second differ
       ∙ ap (λ (rs : List ℕ). above rs f g) (ranks-of-assigned book ranks many fit)
 
   -- The rules from a base on, where the assignment is theirs behind it.

@@ -30,6 +30,7 @@ use Rattle.clauses.proofs.Satisfied.{satisfied-exactly}
 use Rattle.clauses.proofs.RankBitsClear.{satisfying-clears}
 use Rattle.clauses.proofs.Assigned.{assigned, ranks-of-assigned}
 use Rattle.clauses.proofs.RanksExtend.{clearing-satisfies}
+use Rattle.clauses.proofs.ExtendsUniquely.{extends-uniquely}
 use Rattle.clauses.proofs.Dimacs.{file-reads-back, program-prints}
 use Rattle.answer.proofs.Checked.{answers-are-checked}
 use Rattle.rewriting.specs.Step.{OwnSteps}
@@ -44,6 +45,7 @@ use Rattle.demands.specs.Demand2.{
   SatisfiableExactlyIfCleared,
   RankBitsClear,
   ClearingRanksExtend,
+  ExtendOnlyOnce,
   AcceptedExactlyIfDecreasing,
   AnswersAreChecked,
   RunYields,
@@ -82,6 +84,12 @@ ranks-extend bytes book ranks read many fit clears = (
   satisfying bytes book (assigned book ranks) read (clearing-satisfies book (read-within-limits bytes book read) ranks many fit clears),
   ranks-of-assigned book ranks many fit,
 )
+
+extend-only-once : ExtendOnlyOnce
+unfolding ExtendOnlyOnce rankBitsOf
+extend-only-once bytes book α β read first second same v positive within =
+    extends-uniquely book (read-within-limits bytes book read) α β (equations-of bytes book α read first) (equations-of bytes book β read second)
+    same v positive within
 
 -- Ranks below n fit the rank bits.
 fit-the-bits :
@@ -127,6 +135,7 @@ demand2 =
       satisfiable = satisfiable-exactly;
       rankBitsClear = rank-bits-clear;
       ranksExtend = ranks-extend;
+      onlyOnce = extend-only-once;
       accepted = accepted-exactly;
       answers = answers-are-checked;
       runs = run-yields-both;

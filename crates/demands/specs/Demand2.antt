@@ -1,5 +1,5 @@
 -- Demand 2: what the clause file, the rank check and a run mean.
-use Prim.Native.Nat.{ℕ, _<_, _^_}
+use Prim.Native.Nat.{ℕ, _<_, _≤_, _^_}
 use mathlib.Core.List.{List, List·Memᴰ}
 use mathlib.Core.Logic.{_↔_}
 use mathlib.Core.Option.{Option, none, some}
@@ -15,6 +15,7 @@ use Rattle.order.specs.Precedence.{StrictPrecedence, Above}
 use Rattle.order.specs.Clearing.{Clears, checkRanks}
 use Rattle.clauses.specs.Cnf.{Cnf, Assignment, Satisfies}
 use Rattle.clauses.specs.Numbering.{ranksOf}
+use Rattle.clauses.specs.Blocks.{«V»}
 use Rattle.clauses.specs.File.{clauseProgram}
 use Rattle.clauses.specs.Dimacs.{readDimacs}
 use Rattle.answer.specs.Ranks.{ranksFromAnswer}
@@ -58,6 +59,13 @@ ClearingRanksExtend =
     ((rank : ℕ) → List·Memᴰ rank ranks → rank < 2 ^ rankBits (symbols book)) → Clears (Above ranks) (book .rules) →
     (α : Assignment) × SatisfyingAssignment (clauseProgram bytes) α × (rankBitsOf book α ≡ ranks)
 
+-- In fact to exactly one, as far as the file's variables 1 to V go.
+unfoldable pub ExtendOnlyOnce : Type 0
+ExtendOnlyOnce =
+    (bytes : Bytes) (book : Book) (α β : Assignment) → readBook bytes ≡ given book → SatisfyingAssignment (clauseProgram bytes) α →
+    SatisfyingAssignment (clauseProgram bytes) β → rankBitsOf book α ≡ rankBitsOf book β →
+    (v : ℕ) → 0 < v → v ≤ «V» book → α v ≡ β v
+
 -- "Ranks are accepted exactly if they make every rule decrease", one for each symbol ..
 unfoldable pub AcceptedExactlyIfDecreasing : Type 0
 AcceptedExactlyIfDecreasing =
@@ -87,6 +95,7 @@ pub record Demand2 : Type 1 where
   pub satisfiable : SatisfiableExactlyIfCleared
   pub rankBitsClear : RankBitsClear
   pub ranksExtend : ClearingRanksExtend
+  pub onlyOnce : ExtendOnlyOnce
   pub accepted : AcceptedExactlyIfDecreasing
   pub answers : AnswersAreChecked
   pub runs : RunYields
