@@ -7,7 +7,7 @@ use lib.Dec.{eqb-refl}
 use lib.ListN.{length, length-map}
 use Rattle.reply.specs.Reply.{given}
 use Rattle.term.specs.Tables.{rankBits}
-use Rattle.term.proofs.Given.{bind-given, given-bind, then-given, unless-given, given-unless}
+use Rattle.reply.proofs.Given.{bind-given, given-bind, then-given, unless-given, given-unless}
 use Rattle.book.specs.Book.{Book, symbols}
 use Rattle.book.specs.Reading.{readBook}
 use Rattle.order.specs.Clearing.{allDecrease, ranksClear, checkRanks}

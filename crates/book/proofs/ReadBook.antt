@@ -10,7 +10,7 @@ use Rattle.reply.specs.Reply.{given, _at_}
 use Rattle.term.specs.Tables.{Kind, unknown, symbol, rule, symbolNode, variableNode, end, kindOf, bodyLength}
 use Rattle.term.specs.Term.{Term}
 use Rattle.term.specs.Prefix.{Node, symbolic, variable, arityOf, tree}
-use Rattle.term.proofs.Given.{refused-not-given, bind-given, unless-given, either-given}
+use Rattle.reply.proofs.Given.{refused-not-given, bind-given, unless-given, either-given}
 use Rattle.term.proofs.Prefix.{Allowed, declared, standing, Leaves, noNode, leaves-next, leaves-variable, TreeOf, tree-fills}
 use Rattle.book.specs.Book.{Book, Rule, symbols}
 use Rattle.book.specs.Limits.{SideWithinLimits, WithinLimits}

@@ -11,7 +11,7 @@ use Rattle.reply.specs.Reply.{given}
 use Rattle.term.specs.Tables.{bodyLength, bodyLengths}
 use Rattle.term.specs.Term.{Term, size, over, variableFree}
 use Rattle.term.specs.Prefix.{Node, symbolic, arityOf, tree, recordBytes}
-use Rattle.term.proofs.Given.{refused-not-given, bind-given, then-given, unless-given, unless-given-alone, either-given, told-given}
+use Rattle.reply.proofs.Given.{refused-not-given, bind-given, then-given, unless-given, unless-given-alone, either-given, told-given}
 use Rattle.term.proofs.Prefix.{declared, Leaves, noNode, leaves-next, leaves-variable, nodeBytes, nodesBytes, TreeOf, tree-fills, no-variable→free}
 use Rattle.book.specs.Book.{Book}
 use Rattle.book.specs.Record.{endedEarly, afterTheTerm, recordNode, recordEnd, nodesFrom, recordTerm, readRecord}

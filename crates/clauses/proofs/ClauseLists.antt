@@ -7,7 +7,7 @@ use mathlib.Core.Path.{_≡_, refl, sym, _∙_, ap, subst}
 use native.Mathlib.Decide.{ℕ-discrete}
 use native.Mathlib.Omega.{arith}
 use lib.Dec.{T}
-use Rattle.term.proofs.Same.{and-left, and-right, and-both}
+use Rattle.reply.proofs.Tests.{and-left, and-right, and-both}
 use Rattle.clauses.specs.Cnf.{Clause, Assignment, someHolds, allHold}
 use Rattle.clauses.specs.Numbering.{numbers}
 

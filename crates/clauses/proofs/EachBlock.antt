@@ -17,7 +17,8 @@ use Rattle.book.specs.Limits.{WithinLimits}
 use Rattle.clauses.specs.Cnf.{is, Clause}
 use Rattle.clauses.specs.Numbering.{firstBase, baseAfter, numbers}
 use Rattle.clauses.specs.Blocks.{pairBlock, pairBlocksOf, pairBlocks, Numbered, subterms, Setting, CAt, nodeBlock, ruleBlocks, rulesBlocks, blocks, baseBehind, «V»}
-use Rattle.clauses.proofs.Numbers.{numbers-below, base-grows}
+use Rattle.clauses.proofs.ClauseLists.{numbers-below}
+use Rattle.clauses.proofs.Numbers.{base-grows}
 use Rattle.clauses.proofs.Inside.{Inside, subterms-inside}
 
 -- The setting of a rule's blocks in a book.
@@ -57,7 +58,7 @@ module _ (arities : List ℕ) (k top : ℕ) (P : List Clause → Type 0) (kinds 
       (λ f hf. each-pair-of f hf (numbers 0 (length arities)) below) (numbers 0 (length arities)) below
     where
       below : Every (λ f. f < length arities) (numbers 0 (length arities))
-      below = numbers-below 0 (length arities) (length arities) (omega arith)
+      below = every-of-members (λ f. f < length arities) (numbers 0 (length arities)) (λ f m. numbers-below (length arities) f .0 m)
 
   each-of-rule : (base : ℕ) (rule : Rule) → Sides arities rule → baseAfter base rule ≤ top → Every P (ruleBlocks (setting (length arities) k base rule) rule)
   unfolding ruleBlocks

@@ -9,7 +9,7 @@ use lib.Dec.{T, ltb, eqb, ltb→lt, eqb→eq}
 use lib.ListN.{length, length-append, getD}
 use Rattle.reply.proofs.Every.{Every, every-append}
 use Rattle.term.specs.Term.{Term, Args, var, app, nil, cons, size, sizes, count, over, overs}
-use Rattle.term.proofs.Same.{and-left, and-right}
+use Rattle.reply.proofs.Tests.{and-left, and-right}
 use Rattle.clauses.specs.Blocks.{Numbered, numberedArgs, subterms, subtermsOf}
 
 -- What `over` says of a symbol and its arguments.

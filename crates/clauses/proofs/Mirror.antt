@@ -11,7 +11,8 @@ use borrow.Author.Tests.{eqb-true, eqb-false, eq-eqb, le-ltb}
 use lib.Dec.{T, ltb, ltb→lt, eqb, eqb→eq}
 use lib.ListN.{length, getD}
 use Rattle.term.specs.Term.{Term, Args, var, app, nil, cons, size, count, same, over, overs}
-use Rattle.term.proofs.Same.{and-left, and-right, same→identical}
+use Rattle.reply.proofs.Tests.{and-left, and-right}
+use Rattle.term.proofs.Same.{same→identical}
 use Rattle.order.specs.Precedence.{above}
 use Rattle.order.specs.Test.{everyArg, someArg, decreaseAt, reaches, atRoot, exceeds}
 use Rattle.order.proofs.Decides.{exceeds-decides, exceeds-var, exceeds-root}

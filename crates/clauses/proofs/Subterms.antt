@@ -21,7 +21,7 @@ use native.Mathlib.Omega.{arith}
 use lib.Dec.{T, ltb, eqb}
 use lib.ListN.{length, getD}
 use Rattle.term.specs.Term.{Term, Args, var, app, nil, cons, size, sizes, count, over, overs}
-use Rattle.term.proofs.Same.{and-left, and-right}
+use Rattle.reply.proofs.Tests.{and-left, and-right}
 use Rattle.clauses.specs.Blocks.{Numbered, numberedArgs, subterms, subtermsOf}
 
 -- The arguments of a term that stands at u.

@@ -4,7 +4,7 @@ use mathlib.Core.List.{List}
 use mathlib.Core.Logic.{_≢_}
 use native.Mathlib.Omega.{arith}
 use lib.ListN.{length}
-use Rattle.reply.proofs.Every.{Every, every-flatMap}
+use Rattle.reply.proofs.Every.{Every, every-of-members, every-flatMap}
 use Rattle.term.specs.Tables.{rankBits}
 use Rattle.term.specs.Term.{size}
 use Rattle.term.proofs.Tables.{rank-bits-least}
@@ -13,7 +13,8 @@ use Rattle.book.specs.Limits.{WithinLimits}
 use Rattle.clauses.specs.Numbering.{bit, G, firstBase, baseAfter, numbers}
 use Rattle.clauses.specs.Blocks.{pairClauses, pairBlock, CAt, DAt, blocks, «V»}
 use Rattle.clauses.proofs.Items.{Within, Over}
-use Rattle.clauses.proofs.Numbers.{numbers-below, bit-within, G-within, C-within, D-within, base-grows}
+use Rattle.clauses.proofs.ClauseLists.{numbers-below}
+use Rattle.clauses.proofs.Numbers.{bit-within, G-within, C-within, D-within, base-grows}
 use Rattle.clauses.proofs.Inside.{size-positive}
 use Rattle.clauses.proofs.EachBlock.{setting, each-block}
 use Rattle.clauses.proofs.NodesWithin.{Fits, node-block-over}
@@ -47,7 +48,7 @@ module _ (n k top : ℕ) (room : firstBase n k ≤ top) where
   unfolding pairBlock
   pair-block-over f g hf hg ne =
       every-flatMap (λ b. b < k) (Over top) (pairClauses n k f g) (λ b hb. pair-clauses-over f g b hf hg ne hb) (numbers 0 k)
-      (numbers-below 0 k k (omega arith))
+      (every-of-members (λ b. b < k) (numbers 0 k) (λ b m. numbers-below k b .0 m))
 
 -- The blocks of a rule, up to the base after it.
 rule-fits :

@@ -10,7 +10,7 @@ use lib.ListN.{length, getD}
 use Rattle.reply.specs.Reply.{Refusal, Attempt, Reply, given, refused, unless, toldAs, _>>_, _>>=_, _at_}
 use Rattle.reply.specs.Lent.{laid}
 use Rattle.term.specs.Term.{Term, Args, var, app, nil, cons, size}
-use Rattle.term.proofs.Same.{and-left, and-right}
+use Rattle.reply.proofs.Tests.{and-left, and-right}
 use Rattle.book.specs.Book.{Book, Rule}
 use Rattle.book.specs.Reading.{State, recordAt, ended, readFrom, start, readBook}
 use Rattle.book.specs.Record.{Fault, endedEarly, wrongKind, notDeclared, tooManyNodes, afterTheTerm, refusalOf, readRecord}

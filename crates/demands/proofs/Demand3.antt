@@ -6,7 +6,7 @@ use mathlib.Core.Path.{_≡_, refl, sym, ap, ap₂, _∙_}
 use lib.ListN.{length}
 use Rattle.reply.specs.Reply.{Reply, given, refused}
 use Rattle.term.specs.Term.{Term}
-use Rattle.term.proofs.Given.{refused-not-given, bind-given, then-given}
+use Rattle.reply.proofs.Given.{refused-not-given, bind-given, then-given}
 use Rattle.book.specs.Book.{Book, Rule, symbols}
 use Rattle.book.specs.Reading.{readBook}
 use Rattle.book.specs.Record.{readRecord}

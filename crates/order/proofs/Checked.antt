@@ -1,5 +1,5 @@
 -- The rank check accepts exactly the ranks that make every rule decrease, and refusal 8 names the lowest rule that does not.
--- Each line of the check's `do` block is one conjunct: `unless-given` and `unless-refused` say which. Assumes nothing.
+-- Each line of the check's `do` block is one conjunct: `unless-given-exactly` and `unless-refused-exactly` say which. Assumes nothing.
 use Prim.Native.Nat.{ℕ, suc, _+_}
 use mathlib.Core.Bool.{Bool, true, false}
 use mathlib.Core.List.{List, [], _∷_, _++_, List·Memᴰ, List·Memᴰ·head, List·Memᴰ·tail, List·Memᴰ·not-nil, List·Memᴰ·cases-cons}
@@ -9,29 +9,12 @@ use native.Mathlib.Omega.{arith}
 use lib.Dec.{T, eqb, eqb→eq, eqb-refl}
 use lib.ListN.{length}
 use Rattle.reply.specs.Reply.{Refusal, Attempt, given, refused, unless, _>>_, _>>=_, _at_}
+use Rattle.reply.proofs.Given.{given-not-refused, unless-given-exactly, unless-refused-exactly}
 use Rattle.book.specs.Book.{Book, Rule, symbols}
 use Rattle.book.specs.Reading.{readBook}
 use Rattle.order.specs.Precedence.{Above}
 use Rattle.order.specs.Clearing.{Decreases, Clears, decreases, allDecrease, ranksClear, checkRanks}
 use Rattle.order.proofs.Decides.{exceeds-decides}
-
-pub given-not-refused : {R B : Type 0} (b : B) (r : R) → _≡_ {A = Attempt R B} (given b) (refused r) → ⊥
-given-not-refused b r e = let z : _≡_ {A = ℕ} 0 1 = cc in omega arith
-
--- A line `unless test r` and the lines behind it give something exactly if the test holds and those lines give it ..
-pub unless-given :
-    {R B : Type 0} (test : Bool) (r : R) (next : Attempt R B) (b : B) → (_>>_ (unless test r) next ≡ given b) ↔ (T test × (next ≡ given b))
-unfolding unless _>>_
-unless-given true r next b = (λ e. (tt, e), λ h. h .1)
-unless-given false r next b = (λ e. absurd (given-not-refused b r (sym e)), λ h. absurd (h .0))
-
--- .. and refuse with q exactly if the test fails and q is r, or it holds and those lines refuse with q.
-pub unless-refused :
-    {R B : Type 0} (test : Bool) (r q : R) (next : Attempt R B) →
-    (_>>_ (unless test r) next ≡ refused q) ↔ (((T test → ⊥) × (r ≡ q)) ⊎ (T test × (next ≡ refused q)))
-unfolding unless _>>_
-unless-refused true r q next = (λ e. inr (tt, e), ⊎-elim (λ h. absurd (h .0 tt)) (λ h. h .1))
-unless-refused false r q next = (λ e. inl (λ h. h, cc), ⊎-elim (λ h. let p : r ≡ q = h .1 in cc) (λ h. absurd (h .0)))
 
 -- The rules of a list all decrease exactly if the first does and the others do.
 pub clears-none : (above : ℕ → ℕ → Type 0) → Clears above []
@@ -57,7 +40,7 @@ pub all-decrease-exactly :
 unfolding allDecrease
 all-decrease-exactly ranks number [] = (λ e. clears-none (Above ranks), λ c. refl)
 all-decrease-exactly ranks number (rule ∷ rules) =
-    Iff·trans (unless-given (decreases ranks rule) (8 at number) (allDecrease ranks (suc number) rules) tt)
+    Iff·trans (unless-given-exactly (decreases ranks rule) (8 at number) (allDecrease ranks (suc number) rules) tt)
     (Iff·trans (Iff·and (decreases-decides ranks rule) (all-decrease-exactly ranks (suc number) rules))
     (Iff·symm (clears-first (Above ranks) rule rules)))
 
@@ -78,7 +61,7 @@ unfolding allDecrease
 refused→lowest ranks number [] r e = absurd (given-not-refused tt r e)
 refused→lowest ranks number (rule ∷ rules) r e =
     ⊎-elim first (λ h. later (h .0) (refused→lowest ranks (suc number) rules r (h .1)))
-    (unless-refused (decreases ranks rule) (8 at number) r (allDecrease ranks (suc number) rules) .0 e)
+    (unless-refused-exactly (decreases ranks rule) (8 at number) r (allDecrease ranks (suc number) rules) .0 e)
   where
     first : (T (decreases ranks rule) → ⊥) × (8 at number ≡ r) → LowestNotDecreasing ranks number (rule ∷ rules) r
     first h =
@@ -110,13 +93,13 @@ lowest→refused :
     allDecrease ranks number (before ++ rule ∷ behind) ≡ refused (8 at (number + length before))
 unfolding allDecrease
 lowest→refused ranks number [] rule behind earlier fails =
-    unless-refused (decreases ranks rule) (8 at number) (8 at (number + 0)) (allDecrease ranks (suc number) behind) .1
+    unless-refused-exactly (decreases ranks rule) (8 at number) (8 at (number + 0)) (allDecrease ranks (suc number) behind) .1
     (inl (λ d. fails (decreases-decides ranks rule .0 d), ap (λ (place : ℕ). 8 at place) (omega arith)))
 lowest→refused ranks number (first ∷ before) rule behind earlier fails =
     let clear : Decreases (Above ranks) first × Clears (Above ranks) before = clears-first (Above ranks) first before .0 earlier in
     let later : allDecrease ranks (suc number) (before ++ rule ∷ behind) ≡ refused (8 at (suc number + length before)) =
     lowest→refused ranks (suc number) before rule behind (clear .1) fails in
-    unless-refused (decreases ranks first) (8 at number) (8 at (number + suc (length before)))
+    unless-refused-exactly (decreases ranks first) (8 at number) (8 at (number + suc (length before)))
     (allDecrease ranks (suc number) (before ++ rule ∷ behind)) .1
     (inr (decreases-decides ranks first .1 (clear .0), later ∙ ap (λ (place : ℕ). refused (8 at place)) (omega arith)))
 
@@ -134,7 +117,7 @@ pub ranks-clear-exactly :
     (ranksClear book ranks ≡ given tt) ↔ ((length ranks ≡ symbols book) × Clears (Above ranks) (book .rules))
 unfolding ranksClear
 ranks-clear-exactly book ranks =
-    Iff·trans (unless-given (eqb (length ranks) (symbols book)) (7 at 0) (allDecrease ranks 0 (book .rules)) tt)
+    Iff·trans (unless-given-exactly (eqb (length ranks) (symbols book)) (7 at 0) (allDecrease ranks 0 (book .rules)) tt)
     (Iff·and (eqb-decides (length ranks) (symbols book)) (all-decrease-exactly ranks 0 (book .rules)))
   where
     eqb-decides : (m n : ℕ) → T (eqb m n) ↔ (m ≡ n)

@@ -9,30 +9,11 @@ use native.Mathlib.Omega.{arith}
 use lib.Dec.{T, eqb, eqb→eq, eqb-refl, ltb→lt, lt→ltb}
 use lib.ListN.{getD}
 use Rattle.term.specs.Term.{Term, Args, var, app, nil, cons, size, sizes, count, same}
-use Rattle.term.proofs.Same.{and-left, and-right, and-both, same→identical, same-refl}
+use Rattle.reply.proofs.Tests.{and-left, and-right, and-both, or-cases, or-left, or-right, equal-tests}
+use Rattle.term.proofs.Same.{same→identical, same-refl}
 use Rattle.order.specs.Precedence.{Above, above}
 use Rattle.order.specs.Exceeds.{Exceeds, DecreaseAt, ExceedsEvery, SomeReaches, case1, case2, case3, here, further, none, both, identical, exceeding, later}
 use Rattle.order.specs.Test.{everyArg, someArg, decreaseAt, reaches, atRoot, exceedsIn, exceeds}
-
--- A disjunction of tests, taken apart and put together.
-pub or-cases : {C : Type 0} (a b : Bool) → T (a || b) → (T a → C) → (T b → C) → C
-or-cases true b h left right = left h
-or-cases false b h left right = right h
-
-pub or-left : (a b : Bool) → T a → T (a || b)
-or-left true b h = tt
-or-left false b h = absurd h
-
-pub or-right : (a b : Bool) → T b → T (a || b)
-or-right true b h = tt
-or-right false b h = h
-
--- Two tests that hold together are the same Boolean.
-pub equal-tests : (a b : Bool) → T a ↔ T b → a ≡ b
-equal-tests true true h = refl
-equal-tests true false h = absurd (h .0 tt)
-equal-tests false true h = absurd (h .1 tt)
-equal-tests false false h = refl
 
 size-positive : (t : Term) → 1 ≤ size t
 unfolding size

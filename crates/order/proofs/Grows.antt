@@ -6,7 +6,7 @@ use mathlib.Core.List.{List}
 use lib.Dec.{T, eqb, ltb, ltb→lt}
 use lib.ListN.{length, getD}
 use Rattle.term.specs.Term.{Term, Args, app, cons, count, over, overs}
-use Rattle.term.proofs.Same.{and-left, and-right}
+use Rattle.reply.proofs.Tests.{and-left, and-right}
 use Rattle.order.specs.Exceeds.{Exceeds, DecreaseAt, ExceedsEvery, SomeReaches, case1, case2, case3, here, further, none, both, identical, exceeding, later}
 
 -- The symbol f occurs in a term, in some argument of a list.

@@ -1,5 +1,6 @@
 pub mod Cases
 pub mod Tests
+pub mod Given
 pub mod Every
 pub mod Decimal
 pub mod Words

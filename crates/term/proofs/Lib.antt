@@ -1,5 +1,4 @@
 pub mod Cases
 pub mod Same
-pub mod Given
 pub mod Prefix
 pub mod Tables

@@ -11,7 +11,7 @@ use lib.Seq.{length-take-le}
 use Rattle.term.specs.Term.{Term, Args, var, app, nil, cons, size, sizes, count, args, over, overs, variableFree, variablesFree}
 use Rattle.term.specs.Prefix.{Node, symbolic, variable, arityOf, onto, trees, tree, prefix, prefixes}
 use Rattle.term.specs.Replacement.{Occurs, OccursIn, it, under, first, later}
-use Rattle.term.proofs.Same.{and-left, and-right, and-both}
+use Rattle.reply.proofs.Tests.{and-left, and-right, and-both}
 
 -- A node that may stand: a declared symbol, or a variable that may.
 pub data Allowed (arities : List ℕ) (Variable : ℕ → Type 0) : Node → Type 0 where

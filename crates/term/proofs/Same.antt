@@ -1,21 +1,8 @@
 -- The test `same` decides identity of terms. Assumes nothing.
-use mathlib.Core.Bool.{Bool, true, false, _&&_}
 use mathlib.Core.Path.{_≡_, refl, sym, ap, ap₂, subst}
 use lib.Dec.{T, eqb, eqb→eq, eqb-refl}
+use Rattle.reply.proofs.Tests.{and-left, and-right, and-both}
 use Rattle.term.specs.Term.{Term, Args, var, app, nil, cons, same, sames}
-
--- A conjunction of tests, taken apart and put together.
-pub and-left : (a b : Bool) → T (a && b) → T a
-and-left true b h = tt
-and-left false b h = h
-
-pub and-right : (a b : Bool) → T (a && b) → T b
-and-right true b h = h
-and-right false b h = absurd h
-
-pub and-both : (a b : Bool) → T a → T b → T (a && b)
-and-both true b ha hb = hb
-and-both false b ha hb = ha
 
 mutual
   unfolding same

@@ -11,7 +11,7 @@ use lib.ListN.{length, getD}
 use lib.Pow.{pow-mono}
 use Rattle.term.specs.Tables.{rankBitsTable, rankBits}
 use Rattle.term.specs.Computing.{computing}
-use Rattle.term.proofs.Same.{and-left, and-right}
+use Rattle.reply.proofs.Tests.{and-left, and-right}
 
 -- The test f passes at each entry of the list and its place, counted from i.
 passesAt : (ℕ → ℕ → Bool) → ℕ → List ℕ → Bool

@@ -2,10 +2,11 @@
 -- nothing.
 use Prim.Native.Nat.{ℕ}
 use mathlib.Core.Bool.{Bool, true, false, not}
-use mathlib.Core.Path.{_≡_, refl, ap}
+use mathlib.Core.Logic.{_↔_, _⊎_, inl, inr, ⊎-elim}
+use mathlib.Core.Path.{_≡_, refl, sym, ap}
 use native.Mathlib.Omega.{arith}
 use lib.Dec.{T}
 use Rattle.reply.specs.Reply.{Attempt, given, refused, unless, toldAs, _>>_, _>>=_}
 
 module _ {R A : Type 0} where
   pub refused-not-given : (r : R) (a : A) → _≡_ {A = Attempt R A} (refused r) (given a) → ⊥
@@ -49,6 +50,24 @@ module _ {R B : Type 0} where
   unfolding _>>_ unless
   given-unless true r next h = refl
   given-unless false r next h = absurd h
+
+pub given-not-refused : {R B : Type 0} (b : B) (r : R) → _≡_ {A = Attempt R B} (given b) (refused r) → ⊥
+given-not-refused b r e = let z : _≡_ {A = ℕ} 0 1 = cc in omega arith
+
+-- A line `unless test r` and the lines behind it give something exactly if the test holds and those lines give it ..
+pub unless-given-exactly :
+    {R B : Type 0} (test : Bool) (r : R) (next : Attempt R B) (b : B) → (_>>_ (unless test r) next ≡ given b) ↔ (T test × (next ≡ given b))
+unfolding unless _>>_
+unless-given-exactly true r next b = (λ e. (tt, e), λ h. h .1)
+unless-given-exactly false r next b = (λ e. absurd (given-not-refused b r (sym e)), λ h. absurd (h .0))
+
+-- .. and refuse with q exactly if the test fails and q is r, or it holds and those lines refuse with q.
+pub unless-refused-exactly :
+    {R B : Type 0} (test : Bool) (r q : R) (next : Attempt R B) →
+    (_>>_ (unless test r) next ≡ refused q) ↔ (((T test → ⊥) × (r ≡ q)) ⊎ (T test × (next ≡ refused q)))
+unfolding unless _>>_
+unless-refused-exactly true r q next = (λ e. inr (tt, e), ⊎-elim (λ h. absurd (h .0 tt)) (λ h. h .1))
+unless-refused-exactly false r q next = (λ e. inl (λ h. h, cc), ⊎-elim (λ h. let p : r ≡ q = h .1 in cc) (λ h. absurd (h .0)))
 
 pub told-given : {R S A : Type 0} (f : R → S) (x : Attempt R A) (a : A) → toldAs f x ≡ given a → x ≡ given a
 unfolding toldAs
