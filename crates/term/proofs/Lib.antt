@@ -5,3 +5,4 @@ pub mod Tables
 pub mod At
 pub mod SameAt
 pub mod Copied
+pub mod PrefixAt

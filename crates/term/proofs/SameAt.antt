@@ -1,14 +1,13 @@
 -- Two terms that stand in the bytes are compared by their roots' bytes: where these differ the terms do, and where they agree
 -- the arguments decide. So they can be compared node by node. Assumes nothing.
-use Prim.Native.Nat.{ℕ, suc, _+_, _-_, _<_}
+use Prim.Native.Nat.{ℕ, _+_, _-_, _<_}
 use mathlib.Core.Bool.{Bool, true, false, _&&_, and-assoc}
 use mathlib.Core.List.{List}
-use mathlib.Core.Path.{_≡_, refl, sym, ap, ap₂, subst, _∙_}
+use mathlib.Core.Path.{_≡_, refl, sym, ap, ap₂, _∙_}
 use native.Mathlib.Omega.{arith}
-use lib.Dec.{eqb}
 use lib.ListN.{getD}
 use borrow.Author.Tests.{eq-eqb, ne-eqb}
-use Rattle.term.specs.Term.{Term, Args, var, app, nil, cons, count, same, sames}
+use Rattle.term.specs.Term.{Term, Args, nil, cons, count, same, sames}
 use Rattle.term.specs.Root.{arguments}
 use Rattle.term.specs.At.{At, ArgsAt, variableAt, symbolAt}
 use Rattle.term.proofs.At.{FirstAt, joined, args-count, args-first, args-none, root-passed}

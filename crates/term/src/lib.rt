@@ -13,6 +13,7 @@ const BODY_LENGTHS: [u8; 6] = [0, 1, 0, 1, 1, 0];
 
 const RANK_BITS: [u8; 17] = [0, 0, 1, 2, 2, 3, 3, 3, 3, 4, 4, 4, 4, 4, 4, 4, 4];
 
+// A byte as a number to count and index with.
 fn wide(x: u8) -> usize
     ensures { λ r. ⌜ r ≡ x ⌝ }
 {
@@ -90,6 +91,7 @@ pub fn same_at(bytes: &[u8], arities: [u8; 16], a: usize, b: usize) -> bool
     true
 }
 
+// The smaller of two numbers.
 fn least(a: usize, b: usize) -> usize
     ensures { λ r. ⌜ r ≡ min a b ⌝ }
 {
