@@ -1,3 +1,14 @@
 pub mod Cases
-pub mod ReadBook
+pub mod Checks
+pub mod KindNumbers
+pub mod Nodes
+pub mod Steps
+pub mod Going
+pub mod Sides
+pub mod Matched
+pub mod Simulated
+pub mod MoreSymbols
+pub mod Stands
+pub mod Placed
+pub mod Limits
 pub mod ReadRecord

@@ -1,1 +1,279 @@
 // Reading books and records. The definitions stand in specs/.
+ghost use mathlib.Core.Path.{_≡_};
+ghost use Prim.Native.Nat.{ℕ, _<_};
+ghost use lib.ListN.{getD};
+ghost use Rattle.reply.specs.Reply.{refused};
+ghost use Rattle.term.specs.Tables.{kindOf};
+ghost use Rattle.term.specs.Prefix.{arityOf};
+ghost use Rattle.book.specs.Reading.{known, readBook};
+ghost use Rattle.book.specs.Meaning.{nodeOf, meaning};
+ghost use Rattle.book.specs.Placed.{nothingRead, sideOpen, noRuleYet, allowed, bodyFits, roomLeft, checked, checkedAs, ended, answer, placed};
+
+// A book that was read, as places in its bytes. Symbol f has arity arities[f]. The left side of rule i stands from left_at[i] on
+// and has left_nodes[i] nodes, the right side from right_at[i] on and has right_nodes[i]. Entries past the counts are 0.
+pub struct Book {
+    pub symbols: usize,
+    pub arities: [u8; 16],
+    pub rules: usize,
+    pub left_at: [usize; 32],
+    pub left_nodes: [usize; 32],
+    pub right_at: [usize; 32],
+    pub right_nodes: [usize; 32],
+}
+
+// What reading a book finds: it is readable, or one of the refusals 1 to 6 with its place.
+pub enum BookVerdict {
+    Readable,
+    Ended(usize),
+    UnknownKind(usize),
+    NotAllowed(usize),
+    BadBody(usize),
+    TooMany(usize),
+    AfterEnd(usize),
+}
+
+// The verdict, and the book that was read; nothing read beside a refusal.
+pub struct ReadBook {
+    pub verdict: BookVerdict,
+    pub book: Book,
+}
+
+// Where the reading stands: the left side is open from the start of its rule on, the right side as soon as the left is whole, and
+// none once the right is whole.
+enum Stage {
+    BeforeRules,
+    InLeft,
+    InRight,
+    RuleWhole,
+}
+
+// Whether one record is taken.
+enum Checked {
+    Taken,
+    Refused(BookVerdict),
+}
+
+// A byte as a number.
+fn wide(x: u8) -> usize
+    ensures same { λ r. ⌜ r ≡ x ⌝ }
+    ensures small { λ r. ⌜ r < 256 ⌝ }
+{
+    x as usize
+}
+
+// The byte at this place, 0 past the end.
+fn byte_at(bytes: &[u8], at: usize) -> u8
+    ensures { λ r. ⌜ r ≡ getD (now (bytes .entry)) at 0 ⌝ }
+{
+    if at < bytes.len() { bytes[at] } else { 0 }
+}
+
+// No symbol, no rule, every entry 0.
+fn nothing_read() -> Book
+    ensures { λ r. ⌜ r ≡ nothingRead ⌝ }
+{
+    Book {
+        symbols: 0,
+        arities: [0u8; 16],
+        rules: 0,
+        left_at: [0usize; 32],
+        left_nodes: [0usize; 32],
+        right_at: [0usize; 32],
+        right_nodes: [0usize; 32],
+    }
+}
+
+// A refused reading: the verdict, with nothing read.
+fn refuse(verdict: BookVerdict) -> ReadBook
+    ensures { λ r. ⌜ r ≡ answer (refused verdict) ⌝ }
+{
+    let book = nothing_read();
+    ReadBook { verdict, book }
+}
+
+// Kinds 1 to 5.
+fn is_known(kind: u8) -> bool
+    ensures { λ r. ⌜ r ≡ known (kindOf kind) ⌝ }
+{
+    if kind < 1 { false } else { kind <= 5 }
+}
+
+// Whether a side is open.
+fn side_open(stage: Stage) -> bool
+    ensures { λ r. ⌜ r ≡ sideOpen stage ⌝ }
+{
+    match stage {
+        Stage::BeforeRules => false,
+        Stage::InLeft => true,
+        Stage::InRight => true,
+        Stage::RuleWhole => false,
+    }
+}
+
+// Whether symbols may still come.
+fn no_rule_yet(stage: Stage) -> bool
+    ensures { λ r. ⌜ r ≡ noRuleYet stage ⌝ }
+{
+    match stage {
+        Stage::BeforeRules => true,
+        Stage::InLeft => false,
+        Stage::InRight => false,
+        Stage::RuleWhole => false,
+    }
+}
+
+// Refusal 3: a symbol after a rule, a node outside a side still open, a rule or the end while a side is open.
+fn is_allowed(kind: u8, stage: Stage) -> bool
+    ensures { λ r. ⌜ r ≡ allowed (kindOf kind) stage ⌝ }
+{
+    match kind {
+        1 => no_rule_yet(stage),
+        2 => !side_open(stage),
+        3 => side_open(stage),
+        4 => side_open(stage),
+        5 => !side_open(stage),
+        _ => false,
+    }
+}
+
+// Refusal 4: an arity above 6, a variable above 15, a symbol not declared.
+fn body_fits(kind: u8, symbols: usize, body: u8) -> bool
+    ensures { λ r. ⌜ r ≡ bodyFits (kindOf kind) symbols body ⌝ }
+{
+    match kind {
+        1 => body <= 6,
+        3 => wide(body) < symbols,
+        4 => body <= 15,
+        _ => true,
+    }
+}
+
+// Refusal 5: the 17th symbol, the 33rd rule, the 11th node of a side.
+fn room_left(kind: u8, symbols: usize, rules: usize, nodes: usize) -> bool
+    ensures { λ r. ⌜ r ≡ roomLeft (kindOf kind) symbols rules nodes ⌝ }
+{
+    match kind {
+        1 => symbols < 16,
+        2 => rules < 32,
+        3 => nodes < 10,
+        4 => nodes < 10,
+        _ => true,
+    }
+}
+
+// One record, in the order 2, 1, 3, 4, 5: its kind byte stands at `at` in a book of `len` bytes, `body` is the byte behind it.
+fn check_record(
+    len: usize,
+    at: usize,
+    kind: u8,
+    body: u8,
+    stage: Stage,
+    symbols: usize,
+    rules: usize,
+    nodes: usize,
+) -> Checked
+    requires { ⌜ at < len ⌝ }
+    ensures { λ r. ⌜ r ≡ checkedAs (checked len at kind body stage symbols rules nodes) ⌝ }
+{
+    if !is_known(kind) {
+        return Checked::Refused(BookVerdict::UnknownKind(at));
+    }
+    if len - at - 1 < term::body_length(kind) {
+        return Checked::Refused(BookVerdict::Ended(len));
+    }
+    if !is_allowed(kind, stage) {
+        return Checked::Refused(BookVerdict::NotAllowed(at));
+    }
+    if !body_fits(kind, symbols, body) {
+        return Checked::Refused(BookVerdict::BadBody(at + 1));
+    }
+    if !room_left(kind, symbols, rules, nodes) {
+        return Checked::Refused(BookVerdict::TooMany(at));
+    }
+    Checked::Taken
+}
+
+// How many subterms a node opens: as many as its symbol's arity, none for a variable.
+fn opens(kind: u8, body: u8, arities: [u8; 16]) -> usize
+    requires { ⌜ body < 16 ⌝ }
+    ensures counts { λ r. ⌜ r ≡ arityOf arities (nodeOf kind body) ⌝ }
+    ensures small { λ r. ⌜ r < 256 ⌝ }
+{
+    if kind == 3 {
+        let symbol = wide(body);
+        wide(arities[symbol])
+    } else {
+        0
+    }
+}
+
+// "Then kind 5 and nothing more": the end record stands right before `at`.
+fn finish(len: usize, book: Book, at: usize) -> ReadBook
+    ensures { λ r. ⌜ r ≡ answer (ended len book at) ⌝ }
+{
+    if at < len {
+        refuse(BookVerdict::AfterEnd(at))
+    } else {
+        ReadBook {
+            verdict: BookVerdict::Readable,
+            book,
+        }
+    }
+}
+
+// Reads a book: its records from left to right, each checked and then taken into the places. The left side of a rule starts behind its
+// kind 2 record, the right side behind the left.
+pub fn read_book(bytes: &[u8]) -> ReadBook
+    ensures settled { λ r. ⌜ r ≡ placed (now (bytes .entry)) ⌝ }
+    ensures means { λ r. ⌜ meaning (now (bytes .entry)) r ≡ readBook (now (bytes .entry)) ⌝ }
+{
+    let mut book = nothing_read();
+    let mut stage = Stage::BeforeRules;
+    let mut missing: usize = 0;
+    let mut nodes: usize = 0;
+    let mut at: usize = 0;
+    while at < bytes.len() {
+        let kind = bytes[at];
+        let body = byte_at(bytes, at + 1);
+        let symbols = book.symbols;
+        let rules = book.rules;
+        let checked = check_record(bytes.len(), at, kind, body, stage, symbols, rules, nodes);
+        if let Checked::Refused(verdict) = checked {
+            return refuse(verdict);
+        }
+        at += 1 + term::body_length(kind);
+        if kind == 5 {
+            return finish(bytes.len(), book, at);
+        }
+        if kind == 1 {
+            book.arities[symbols] = body;
+            book.symbols = symbols + 1;
+        } else if kind == 2 {
+            book.left_at[rules] = at;
+            stage = Stage::InLeft;
+            missing = 1;
+            nodes = 0;
+        } else {
+            let arities = book.arities;
+            missing = missing - 1 + opens(kind, body, arities);
+            nodes += 1;
+            if missing == 0 {
+                match stage {
+                    Stage::InLeft => {
+                        book.left_nodes[rules] = nodes;
+                        book.right_at[rules] = at;
+                        stage = Stage::InRight;
+                        missing = 1;
+                        nodes = 0;
+                    }
+                    _ => {
+                        book.right_nodes[rules] = nodes;
+                        book.rules = rules + 1;
+                        stage = Stage::RuleWhole;
+                    }
+                }
+            }
+        }
+    }
+    refuse(BookVerdict::Ended(bytes.len()))
+}

@@ -11,7 +11,7 @@ use Rattle.book.specs.Book.{Book, Rule, symbols}
 use Rattle.book.specs.Reading.{readBook}
 use Rattle.book.specs.Record.{readRecord}
 use Rattle.book.specs.Limits.{WithinLimits}
-use Rattle.book.proofs.ReadBook.{read-within-limits}
+use Rattle.book.proofs.Limits.{read-within-limits}
 use Rattle.order.specs.Precedence.{StrictPrecedence, Above}
 use Rattle.order.specs.Clearing.{Clears, Decreases, ranksClear}
 use Rattle.order.proofs.Checked.{ranks-clear-exactly}

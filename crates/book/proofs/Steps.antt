@@ -1,0 +1,82 @@
+-- The machine over places, record by record: what reading goes on with after each. Assumes nothing.
+use Prim.Native.Nat.{ℕ, zero, suc, _+_, _≤_, _<_}
+use mathlib.Core.List.{List}
+use mathlib.Core.Path.{_≡_, refl, sym, ap, _∙_}
+use native.Mathlib.Omega.{arith}
+use borrow.Author.Tests.{lt-ltb, le-ltb, eq-eqb, ne-eqb}
+use lib.ListN.{length, getD}
+use Rattle.reply.specs.Reply.{Attempt, given, refused, _>>_}
+use Rattle.term.specs.Tables.{kindOf, bodyLength}
+use Rattle.book.specs.Placed.{Reader, checked, next, ended, placedFrom, start, answer, placed}
+use Rattle.book.specs.declared.BookVerdict.{BookVerdict}
+use Rattle.book.specs.declared.BookVerdict.the-variants.{Ended}
+
+-- The tests of the record that stands at p.
+abbrev pub checkedAt : (bytes : List ℕ) → Reader → (p : ℕ) → Attempt BookVerdict (Unit {0})
+checkedAt bytes q p = checked (length bytes) p (getD bytes p 0) (getD bytes (p + 1) 0) (q .stage) (q .book .symbols) (q .book .rules) (q .nodes)
+
+-- The reading of the book goes on from q at p: what is still to be read from there is what the book gives.
+pub record Continues (bytes : List ℕ) (q : Reader) (p : ℕ) : Type 0 where
+  pub fuel : ℕ
+  pub enough : length bytes ≤ p + fuel
+  pub same : placedFrom fuel bytes q p ≡ placedFrom (length bytes) bytes start 0
+
+pub at-start : (bytes : List ℕ) → Continues bytes start 0
+at-start bytes = record { fuel = length bytes; enough = omega arith; same = refl }
+
+module _ (bytes : List ℕ) (q : Reader) (p : ℕ) where
+  -- Nothing is read past the end.
+  pub at-end : (fuel : ℕ) → length bytes ≤ p → placedFrom fuel bytes q p ≡ refused (Ended (length bytes))
+  unfolding placedFrom
+  at-end zero h = refl
+  at-end (suc fuel) h = rw (placedFrom, le-ltb p (length bytes) h)
+
+  -- No byte is left.
+  pub ended-early : Continues bytes q p → length bytes ≤ p → placed bytes ≡ answer (refused (Ended (length bytes)))
+  unfolding placed
+  ended-early c h = ap answer (sym (c .same) ∙ at-end (c .fuel) h)
+
+  module _ (here : p < length bytes) where
+    -- A record is left, so there is fuel for it.
+    with-fuel :
+        {P : Type 0} → ((fuel : ℕ) → length bytes ≤ p + suc fuel → placedFrom (suc fuel) bytes q p ≡ placedFrom (length bytes) bytes start 0 → P) →
+        Continues bytes q p → P
+    with-fuel {P} f c = go (c .fuel) (c .enough) (c .same)
+      where
+        go : (fuel : ℕ) → length bytes ≤ p + fuel → placedFrom fuel bytes q p ≡ placedFrom (length bytes) bytes start 0 → P
+        go zero enough same = absurd (omega arith)
+        go (suc fuel) enough same = f fuel enough same
+
+    refused-step : (fuel : ℕ) (v : BookVerdict) → checkedAt bytes q p ≡ refused v → placedFrom (suc fuel) bytes q p ≡ refused v
+    unfolding placedFrom _>>_
+    refused-step fuel v e = rw (placedFrom, lt-ltb p (length bytes) here, e)
+
+    -- The record at p is refused.
+    pub refused-here : Continues bytes q p → (v : BookVerdict) → checkedAt bytes q p ≡ refused v → placed bytes ≡ answer (refused v)
+    unfolding placed
+    refused-here c v e = with-fuel (λ fuel enough same. ap answer (sym same ∙ refused-step fuel v e)) c
+
+    ended-step :
+        (fuel : ℕ) → checkedAt bytes q p ≡ given tt → getD bytes p 0 ≡ 5 → placedFrom (suc fuel) bytes q p ≡ ended (length bytes) (q .book) (p + 1)
+    unfolding placedFrom _>>_
+    ended-step fuel e k = rw (placedFrom, lt-ltb p (length bytes) here, e, eq-eqb (getD bytes p 0) 5 k)
+
+    -- The end record is at p.
+    pub ended-here :
+        Continues bytes q p → checkedAt bytes q p ≡ given tt → getD bytes p 0 ≡ 5 → placed bytes ≡ answer (ended (length bytes) (q .book) (p + 1))
+    unfolding placed
+    ended-here c e k = with-fuel (λ fuel enough same. ap answer (sym same ∙ ended-step fuel e k)) c
+
+    taken-step :
+        (fuel : ℕ) → checkedAt bytes q p ≡ given tt → (getD bytes p 0 ≡ 5 → ⊥) →
+        placedFrom (suc fuel) bytes q p
+        ≡ placedFrom fuel bytes (next (kindOf (getD bytes p 0)) q p (getD bytes (p + 1) 0)) (p + 1 + bodyLength (getD bytes p 0))
+    unfolding placedFrom _>>_
+    taken-step fuel e k = rw (placedFrom, lt-ltb p (length bytes) here, e, ne-eqb (getD bytes p 0) 5 k)
+
+    -- Another record is taken.
+    pub taken-here :
+        Continues bytes q p → checkedAt bytes q p ≡ given tt → (getD bytes p 0 ≡ 5 → ⊥) →
+        Continues bytes (next (kindOf (getD bytes p 0)) q p (getD bytes (p + 1) 0)) (p + 1 + bodyLength (getD bytes p 0))
+    taken-here c e k =
+        with-fuel (λ fuel enough same. record { fuel = fuel; enough = omega arith; same = sym (taken-step fuel e k) ∙ same }) c
