@@ -1,0 +1,49 @@
+// A row's parts, on standard output.
+use book::BookVerdict;
+use libc::STDOUT_FILENO;
+
+pub fn text(words: &[u8]) {
+    io::write_all(STDOUT_FILENO, words);
+}
+
+pub fn number(n: u64) {
+    io::print_decimal(STDOUT_FILENO, n);
+}
+
+fn wide(x: u8) -> u64 {
+    x as u64
+}
+
+// Bytes in hexadecimal, two digits each; `-` for none.
+pub fn bytes(bytes: &[u8]) {
+    if bytes.len() == 0 {
+        text(b"-");
+        return;
+    }
+    let mut i = 0;
+    while i < bytes.len() {
+        io::print_hex(STDOUT_FILENO, wide(bytes[i]), 2);
+        i += 1;
+    }
+}
+
+pub fn refused(refusal: u64, place: usize) {
+    text(b"refused ");
+    number(refusal);
+    text(b" at ");
+    number(place as u64);
+    text(b"\n");
+}
+
+// Why a book cannot be read; nothing for a readable one.
+pub fn unreadable(verdict: BookVerdict) {
+    match verdict {
+        BookVerdict::Readable => {}
+        BookVerdict::Ended(p) => refused(1, p),
+        BookVerdict::UnknownKind(p) => refused(2, p),
+        BookVerdict::NotAllowed(p) => refused(3, p),
+        BookVerdict::BadBody(p) => refused(4, p),
+        BookVerdict::TooMany(p) => refused(5, p),
+        BookVerdict::AfterEnd(p) => refused(6, p),
+    }
+}
