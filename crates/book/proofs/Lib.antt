@@ -11,4 +11,9 @@ pub mod MoreSymbols
 pub mod Stands
 pub mod Placed
 pub mod Limits
+pub mod RecordSteps
+pub mod TreeBack
 pub mod ReadRecord
+pub mod RecordStands
+pub mod RecordGoing
+pub mod Settled

@@ -3,6 +3,7 @@ pub mod Reading
 pub mod Placed
 pub mod Meaning
 pub mod Record
+pub mod RecordMeaning
 pub mod Limits
 pub mod Examples
 pub mod Computing

@@ -1,11 +1,13 @@
 // Reading books and records. The definitions stand in specs/.
 ghost use mathlib.Core.Path.{_≡_};
-ghost use Prim.Native.Nat.{ℕ, _<_};
-ghost use lib.ListN.{getD};
+ghost use Prim.Native.Nat.{ℕ, _<_, min};
+ghost use lib.ListN.{length, getD, take, drop};
 ghost use Rattle.reply.specs.Reply.{refused};
 ghost use Rattle.term.specs.Tables.{kindOf};
 ghost use Rattle.term.specs.Prefix.{arityOf};
 ghost use Rattle.book.specs.Reading.{known, readBook};
+ghost use Rattle.book.specs.Record.{recordNode, recordEnd, recordTerm};
+ghost use Rattle.book.specs.RecordMeaning.{recordMeaning, recordVerdict, nodeFound, endFound};
 ghost use Rattle.book.specs.Meaning.{nodeOf, meaning};
 ghost use Rattle.book.specs.Placed.{nothingRead, sideOpen, noRuleYet, allowed, bodyFits, roomLeft, checked, checkedAs, ended, answer, placed};
 
@@ -276,4 +278,94 @@ pub fn read_book(bytes: &[u8]) -> ReadBook
         }
     }
     refuse(BookVerdict::Ended(bytes.len()))
+}
+
+// What reading a record finds: a whole term of so many nodes and then the end, or the first fault with its byte.
+pub enum RecordVerdict {
+    Whole(usize),
+    EndedEarly(usize),
+    WrongKind(usize),
+    NotDeclared(usize),
+    TooManyNodes(usize),
+    AfterTheTerm(usize),
+}
+
+// One node of a record: its symbol, or what is wrong with it.
+enum NodeFound {
+    Symbol(usize),
+    Faulty(RecordVerdict),
+}
+
+// How many symbols a table of 16 arities declares.
+fn in_table(symbols: usize) -> usize
+    ensures { λ r. ⌜ r ≡ min symbols 16 ⌝ }
+{
+    if symbols < 16 { symbols } else { 16 }
+}
+
+// The node at this place, behind `nodes` others: "kind 3 nodes only .., at most 256 nodes", of a declared symbol.
+fn node_at(bytes: &[u8], at: usize, nodes: usize, symbols: usize) -> NodeFound
+    ensures { λ r. ⌜ r ≡ nodeFound (recordNode symbols (length (now (bytes .entry))) nodes at (drop at (now (bytes .entry)))) ⌝ }
+{
+    let len = bytes.len();
+    if len <= at {
+        return NodeFound::Faulty(RecordVerdict::EndedEarly(len));
+    }
+    let kind = bytes[at];
+    if kind != 3 {
+        return NodeFound::Faulty(RecordVerdict::WrongKind(at));
+    }
+    if len - at - 1 < term::body_length(kind) {
+        return NodeFound::Faulty(RecordVerdict::EndedEarly(len));
+    }
+    let symbol = wide(bytes[at + 1]);
+    if symbols <= symbol {
+        return NodeFound::Faulty(RecordVerdict::NotDeclared(at + 1));
+    }
+    if 256 <= nodes {
+        return NodeFound::Faulty(RecordVerdict::TooManyNodes(at));
+    }
+    NodeFound::Symbol(symbol)
+}
+
+// "then kind 5" and nothing more, behind a whole term of so many nodes.
+fn end_at(bytes: &[u8], at: usize, nodes: usize) -> RecordVerdict
+    ensures { λ r. ⌜ r ≡ endFound nodes (recordEnd (length (now (bytes .entry))) at (drop at (now (bytes .entry)))) ⌝ }
+{
+    let len = bytes.len();
+    if len <= at {
+        return RecordVerdict::EndedEarly(len);
+    }
+    if bytes[at] != 5 {
+        return RecordVerdict::AfterTheTerm(at);
+    }
+    if at + 1 < len {
+        return RecordVerdict::AfterTheTerm(at + 1);
+    }
+    RecordVerdict::Whole(nodes)
+}
+
+// Reads a record to be run: its nodes from left to right while a subterm is missing, then its end.
+pub fn read_record(bytes: &[u8], symbols: usize, arities: [u8; 16]) -> RecordVerdict
+    ensures settled { λ r. ⌜ r ≡ recordVerdict (recordTerm (take symbols arities) (now (bytes .entry))) ⌝ }
+    ensures means { λ r. ⌜ recordMeaning (now (bytes .entry)) (take symbols arities) r ≡ recordTerm (take symbols arities) (now (bytes .entry)) ⌝ }
+{
+    let declared = in_table(symbols);
+    let mut missing: usize = 1;
+    let mut nodes: usize = 0;
+    let mut at: usize = 0;
+    while 0 < missing {
+        let found = node_at(bytes, at, nodes, declared);
+        match found {
+            NodeFound::Faulty(verdict) => {
+                return verdict;
+            }
+            NodeFound::Symbol(symbol) => {
+                missing = missing - 1 + wide(arities[symbol]);
+                nodes += 1;
+                at += 2;
+            }
+        }
+    }
+    end_at(bytes, at, nodes)
 }
