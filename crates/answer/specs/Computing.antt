@@ -14,7 +14,11 @@ use Rattle.answer.specs.Lines.{
   readAnswer,
 }
 use Rattle.answer.specs.Ranks.{valued, answered, ranksFromAnswer}
+use Rattle.answer.specs.Places.{upTo}
+use Rattle.answer.specs.Items.{within}
+use Rattle.answer.specs.Table.{mark, tableOf, wordAfter}
+use Rattle.answer.specs.Told.{noValues, tabled, assigned, verdictMeaning, meaning}
 
 unfoldable pub computing : Unit {0}
-unfolding Computing.computing variableOf names named itemAfter itemsAfter itemLine valueLine verdictLine lineOf verdictAfter valuesAfter lineAfter linesAfter whole readAnswer valued answered ranksFromAnswer
+unfolding Computing.computing variableOf names named itemAfter itemsAfter itemLine valueLine verdictLine lineOf verdictAfter valuesAfter lineAfter linesAfter whole readAnswer valued answered ranksFromAnswer upTo within mark tableOf wordAfter noValues tabled assigned verdictMeaning meaning
 computing = tt

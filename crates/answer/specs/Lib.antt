@@ -1,4 +1,9 @@
 pub mod Values
 pub mod Lines
 pub mod Ranks
+pub mod Places
+pub mod Items
+pub mod Table
+pub mod Told
+pub mod Usual
 pub mod Computing

@@ -1,1 +1,5 @@
 // A solver's answer. The definitions stand in specs/.
+mod items;
+pub mod lines;
+mod text;
+mod values;

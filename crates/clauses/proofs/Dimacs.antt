@@ -30,7 +30,7 @@ use Rattle.clauses.proofs.WithinV.{blocks-within-V}
 clauseWords : Clause → List (List ℕ)
 clauseWords clause = map literalWord clause ++ ((48 ∷ []) ∷ [])
 
-literal-bytes : (l : Literal) (rest : List ℕ) → literalBytes l ++ rest ≡ literalWord l ++ 32 ∷ rest
+pub literal-bytes : (l : Literal) (rest : List ℕ) → literalBytes l ++ rest ≡ literalWord l ++ 32 ∷ rest
 literal-bytes (is v) rest = unfold computing in append-assoc (decimal v) (ascii " ") rest
 literal-bytes (isNot v) rest = unfold computing in ap (λ (bs : List ℕ). 45 ∷ bs) (append-assoc (decimal v) (ascii " ") rest)
 

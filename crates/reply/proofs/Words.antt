@@ -26,7 +26,7 @@ module _ (blank : ℕ → Bool) where
   unfolding pieces
   piece-ends b rest e = rw (e, pieces)
 
-  piece-first :
+  pub piece-first :
       (w : List ℕ) → Every (λ c. blank c ≡ false) w → (b : ℕ) (rest : List ℕ) → blank b ≡ true →
       pieces blank (w ++ b ∷ rest) ≡ w ∷ pieces blank rest
   unfolding pieces ontoFirst

@@ -1,0 +1,64 @@
+-- `answer::items::number_within` meets its contract. What is left of the text, behind the value so far, is the whole text's number.
+-- Assumes nothing.
+use Prim.Native.Nat.{_-_, _≤_}
+use mathlib.Core.Path.{_≡_, refl, _∙_}
+use native.Mathlib.Omega.{arith}
+use lib.ListN.{length, drop}
+use borrow.Author.Needs.{needs}
+use Rattle.reply.specs.Decimal.{number}
+use Rattle.answer.specs.Items.{within}
+use Rattle.answer.proofs.Numbers.{behind, ended-at, stopped-at, gone-on-at}
+use Rattle.answer.proofs.items.number_within.Statement.{statement}
+use Rattle.answer.proofs.items.number_within.Tie as tie
+use Rattle.answer.proofs.items.number_within.Reads as reads
+use Rattle.answer.proofs.items.number_within.Lts as lts
+use Rattle.answer.proofs.items.grown.Reads as grown-reads
+
+abbrev Inv-loop : tie.InvT-loop
+Inv-loop text top value₀ i₀ value i = (value ≤ top) × (behind top value (drop i text) ≡ within top (number text))
+
+abbrev μ-loop : tie.MeasureT-loop
+μ-loop text top value₀ i₀ value i = length text - i
+
+loop-holds : tie.Need-loop-holds Inv-loop μ-loop
+loop-holds c = (omega arith, refl)
+
+shared-slice-read-grown : tie.Need-shared-slice-read-grown Inv-loop μ-loop
+shared-slice-read-grown c = omega arith
+
+grown-requires : tie.Need-grown-requires Inv-loop μ-loop
+grown-requires c κs = search needs
+
+returns : tie.Need-returns Inv-loop μ-loop
+returns c =
+    stopped-at _ _ _ _ _ (c .before .before .before .loop-test .taken) (c .before .grown .ensures) (c .if1 .taken)
+    ∙ c .before .before .before .before .loop .inv .1
+
+add-i : tie.Need-add-i Inv-loop μ-loop
+add-i c = omega arith
+
+loop-less : tie.Need-loop-less Inv-loop μ-loop
+loop-less c = omega arith
+
+loop-again : tie.Need-loop-again Inv-loop μ-loop
+loop-again c =
+    gone-on-at _ _ _ _ _ (c .before .before .before .loop-test .taken) (c .before .grown .ensures) (c .if1 .left)
+    (c .before .before .before .before .loop .inv .1)
+
+returns-2 : tie.Need-returns-2 Inv-loop μ-loop
+returns-2 c = ended-at _ _ _ _ (c .loop-test .left) (c .before .loop .inv .0) ∙ c .before .loop .inv .1
+
+pub number-within-spec : {M : Type 1} → statement M
+number-within-spec =
+    tie.close
+    (tie.spec
+    Inv-loop
+    μ-loop
+    loop-holds
+    shared-slice-read-grown
+    grown-requires
+    returns
+    add-i
+    loop-less
+    loop-again
+    returns-2)
