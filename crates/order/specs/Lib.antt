@@ -1,6 +1,9 @@
 pub mod Precedence
 pub mod Exceeds
 pub mod Test
+pub mod Places
 pub mod Clearing
+pub mod Standing
+pub mod Meaning
 pub mod ReductionOrder
 pub mod Computing

@@ -22,11 +22,11 @@ found-nothing p q = let z : _≡_ {A = ℕ} 0 1 = cc in omega arith
 
 -- At a place: the front rule if it fits, else the later ones.
 module _ (rule : Rule) (rules : List Rule) (s : Term) where
-  front-rule : fits (rule .left) s ≡ true → rewritten (rule ∷ rules) s ≡ some (replace (matching (rule .left) s) (rule .right))
+  pub front-rule : fits (rule .left) s ≡ true → rewritten (rule ∷ rules) s ≡ some (replace (matching (rule .left) s) (rule .right))
   unfolding rewritten
   front-rule p = rw (p, rewritten)
 
-  later-rules : fits (rule .left) s ≡ false → rewritten (rule ∷ rules) s ≡ rewritten rules s
+  pub later-rules : fits (rule .left) s ≡ false → rewritten (rule ∷ rules) s ≡ rewritten rules s
   unfolding rewritten
   later-rules p = rw (p, rewritten)
 

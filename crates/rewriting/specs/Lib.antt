@@ -3,3 +3,8 @@ pub mod Step
 pub mod Run
 pub mod Argument
 pub mod Computing
+pub mod Table
+pub mod Places
+pub mod Right
+pub mod Stepped
+pub mod Asked

@@ -1,1 +1,6 @@
-// Steps, the run and the argument question. The definitions stand in specs/.
+// Runs of a record under a cleared book, and the argument question. The definitions stand in specs/.
+pub mod asking;
+mod building;
+mod matching;
+mod placing;
+mod stepping;

@@ -1,0 +1,79 @@
+// The place of a step: "the first place in postorder at which some rule fits, and there the rule with the lowest number".
+use crate::matching::Match;
+use crate::matching::matched;
+use crate::matching::nothing_fits;
+use book::Book;
+ghost use Prim.Native.Nat.{ℕ};
+ghost use mathlib.Core.List.{List};
+ghost use lib.ListN.{length};
+ghost use Rattle.term.specs.Term.{Term};
+ghost use Rattle.term.specs.At.{At, Standing};
+ghost use Rattle.book.specs.Book.{Rule};
+ghost use Rattle.rewriting.specs.Places.{RulesAt, Ruled, Whole, FirstRule, FirstPlace};
+
+// A rule with its match; the table says whether it fits.
+pub struct Fit {
+    pub rule: usize,
+    pub table: Match,
+}
+
+// A subterm of the record, from `at` to `end`, and the rule that fits it.
+pub struct Place {
+    pub at: usize,
+    pub end: usize,
+    pub fit: Fit,
+}
+
+// The rule with the lowest number that fits the subterm at this place.
+pub fn first_rule(book: &[u8], places: Book, bytes: &[u8], at: usize) -> Fit
+    requires { ⌜ Ruled (now book) places ⌝ }
+    requires { ⌜ Standing (now bytes) (places .arities) at ⌝ }
+    ensures { λ r. ⌜ ((rules : List Rule) (s : Term) (e : ℕ) → RulesAt (now (book .entry)) places rules → At (now (bytes .entry)) (places .arities) at s e → FirstRule (now (bytes .entry)) (places .arities) rules s r) ⌝ }
+{
+    let mut rule = 0;
+    while rule < places.rules {
+        let left = places.left_at[rule];
+        let end = left + 2 * places.left_nodes[rule];
+        let table = matched(book, left, end, bytes, at, places.arities);
+        if table.fits {
+            return Fit { rule, table };
+        }
+        rule += 1;
+    }
+    Fit {
+        rule,
+        table: nothing_fits(),
+    }
+}
+
+// The places in prefix order, each tried once. Where a rule fits, a place inside the subterm comes earlier in postorder and every
+// place behind it later: so the place is kept, and the search goes on inside.
+pub fn first_place(book: &[u8], places: Book, bytes: &[u8]) -> Place
+    requires { ⌜ Ruled (now book) places ⌝ }
+    requires { ⌜ Whole (now bytes) (places .arities) ⌝ }
+    ensures { λ r. ⌜ ((rules : List Rule) (t : Term) → RulesAt (now (book .entry)) places rules → At (now (bytes .entry)) (places .arities) 0 t (length (now (bytes .entry))) → FirstPlace (now (bytes .entry)) (places .arities) rules t r) ⌝ }
+{
+    let arities = places.arities;
+    let mut bound = bytes.len();
+    let table = nothing_fits();
+    let none = Fit { rule: 0, table };
+    let mut first = Place {
+        at: 0,
+        end: bound,
+        fit: none,
+    };
+    let mut at = 0;
+    while at < bound {
+        let fit = first_rule(book, places, bytes, at);
+        if fit.table.fits {
+            bound = term::end_of(bytes, arities, at);
+            first = Place {
+                at,
+                end: bound,
+                fit,
+            };
+        }
+        at += 2;
+    }
+    first
+}
