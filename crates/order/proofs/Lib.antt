@@ -10,3 +10,6 @@ pub mod Stepwise
 pub mod Places
 pub mod Standing
 pub mod Lowest
+pub mod RankTable
+pub mod Verdicts
+pub mod Settled

@@ -4,6 +4,7 @@ pub mod Test
 pub mod Places
 pub mod Clearing
 pub mod Standing
+pub mod RankTable
 pub mod Meaning
 pub mod ReductionOrder
 pub mod Computing

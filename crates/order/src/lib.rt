@@ -2,16 +2,28 @@
 mod compare;
 
 use book::Book;
+use book::BookVerdict;
 ghost use mathlib.Core.Path.{_≡_};
+ghost use Prim.Native.Nat.{_≤_};
+ghost use lib.ListN.{length};
 ghost use Rattle.book.specs.Meaning.{bookAt};
-ghost use Rattle.order.specs.Clearing.{allDecrease};
-ghost use Rattle.order.specs.Meaning.{decreaseMeaning};
+ghost use Rattle.order.specs.Clearing.{allDecrease, ranksClear, checkRanks};
+ghost use Rattle.order.specs.Meaning.{decreaseMeaning, ranksMeaning};
+ghost use Rattle.order.specs.RankTable.{SameRanks};
 ghost use Rattle.order.specs.Standing.{BookStands};
 
 // Whether every rule decreases, or the lowest that does not.
 pub enum Decrease {
     Everywhere,
     NotAt(usize),
+}
+
+// What the rank check answers: the ranks are accepted, or refused: by the book's own refusal, by 7 or by 8.
+pub enum RanksVerdict {
+    Accepted,
+    Unreadable(BookVerdict),
+    WrongCount,
+    NotDecreasing(usize),
 }
 
 // The lowest rule that does not decrease, of a book that stands at its places in these bytes.
@@ -33,4 +45,48 @@ pub fn first_not_decreasing(bytes: &[u8], book: Book, ranks: [u8; 16]) -> Decrea
         rule += 1;
     }
     Decrease::Everywhere
+}
+
+// The ranks in a table of 16, 0 for a symbol that has none.
+fn padded(ranks: &[u8]) -> [u8; 16]
+    requires { ⌜ length (now ranks) ≤ 16 ⌝ }
+    ensures { λ r. ⌜ SameRanks r (now (ranks .entry)) ⌝ }
+{
+    let mut table = [0u8; 16];
+    let mut f = 0;
+    while f < ranks.len() {
+        table[f] = ranks[f];
+        f += 1;
+    }
+    table
+}
+
+// "ranks 7, 8", of a book that stands at its places in these bytes.
+pub fn ranks_clear(bytes: &[u8], book: Book, ranks: &[u8]) -> RanksVerdict
+    requires { ⌜ BookStands (now bytes) book (bookAt (now bytes) book) ⌝ }
+    ensures { λ r. ⌜ ranksMeaning r ≡ ranksClear (bookAt (now (bytes .entry)) book) (now (ranks .entry)) ⌝ }
+{
+    let symbols = book.symbols;
+    if ranks.len() != symbols {
+        return RanksVerdict::WrongCount;
+    }
+    let table = padded(ranks);
+    let found = first_not_decreasing(bytes, book, table);
+    match found {
+        Decrease::Everywhere => RanksVerdict::Accepted,
+        Decrease::NotAt(rule) => RanksVerdict::NotDecreasing(rule),
+    }
+}
+
+// Whether these ranks make every rule of the book decrease: the book's refusals 1 to 6, then 7, then 8 at the lowest rule.
+pub fn check_ranks(book: &[u8], ranks: &[u8]) -> RanksVerdict
+    ensures { λ r. ⌜ ranksMeaning r ≡ checkRanks (now (book .entry)) (now (ranks .entry)) ⌝ }
+{
+    let read = book::read_book(book);
+    let verdict = read.verdict;
+    let BookVerdict::Readable = verdict else {
+        return RanksVerdict::Unreadable(verdict);
+    };
+    let places = read.book;
+    ranks_clear(book, places, ranks)
 }
