@@ -17,3 +17,4 @@ pub mod ReadRecord
 pub mod RecordStands
 pub mod RecordGoing
 pub mod Settled
+pub mod PlacedCases

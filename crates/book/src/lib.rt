@@ -183,13 +183,16 @@ fn check_record(
     if len - at - 1 < term::body_length(kind) {
         return Checked::Refused(BookVerdict::Ended(len));
     }
-    if !is_allowed(kind, stage) {
+    let allowed = is_allowed(kind, stage);
+    let fits = body_fits(kind, symbols, body);
+    let room = room_left(kind, symbols, rules, nodes);
+    if !allowed {
         return Checked::Refused(BookVerdict::NotAllowed(at));
     }
-    if !body_fits(kind, symbols, body) {
+    if !fits {
         return Checked::Refused(BookVerdict::BadBody(at + 1));
     }
-    if !room_left(kind, symbols, rules, nodes) {
+    if !room {
         return Checked::Refused(BookVerdict::TooMany(at));
     }
     Checked::Taken

@@ -17,4 +17,6 @@ pub mod HandedOut
 pub mod Finitely
 pub mod Bound
 pub mod Run
+pub mod TakingTurns
+pub mod RecordRuns
 pub mod Settled

@@ -15,27 +15,27 @@ use Rattle.rewriting.specs.Run.{Outcome, done, spent, tooLarge, Ran, Mea
 use Rattle.rewriting.proofs.OwnStep.{own-steps-are-free}
 
 -- A run that ends where it stands.
-abbrev ended : Outcome → ℕ → Term → Ran
+abbrev pub ended : Outcome → ℕ → Term → Ran
 ended outcome made t = record { outcome = outcome; steps = made; reached = t }
 
 -- The four cases: done, spent, too large, and one step on.
 module _ (rules : List Rule) (made : ℕ) (t : Term) where
-  run-done : (budget : ℕ) → stepOf rules t ≡ none → runFrom rules budget made t ≡ ended done made t
+  pub run-done : (budget : ℕ) → stepOf rules t ≡ none → runFrom rules budget made t ≡ ended done made t
   unfolding runFrom
   run-done zero p = rw (p, runFrom)
   run-done (suc budget) p = rw (p, runFrom)
 
-  run-spent : (t′ : Term) → stepOf rules t ≡ some t′ → runFrom rules zero made t ≡ ended spent made t
+  pub run-spent : (t′ : Term) → stepOf rules t ≡ some t′ → runFrom rules zero made t ≡ ended spent made t
   unfolding runFrom
   run-spent t′ p = rw (p, runFrom)
 
-  run-too-large :
+  pub run-too-large :
       (budget : ℕ) (t′ : Term) → stepOf rules t ≡ some t′ → leb (size t′) 256 ≡ false →
       runFrom rules (suc budget) made t ≡ ended tooLarge made t
   unfolding runFrom
   run-too-large budget t′ p q = rw (p, runFrom, q)
 
-  run-goes-on :
+  pub run-goes-on :
       (budget : ℕ) (t′ : Term) → stepOf rules t ≡ some t′ → leb (size t′) 256 ≡ true →
       runFrom rules (suc budget) made t ≡ runFrom rules budget (suc made) t′
   unfolding runFrom

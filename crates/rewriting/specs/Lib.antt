@@ -8,3 +8,5 @@ pub mod Places
 pub mod Right
 pub mod Stepped
 pub mod Asked
+pub mod Turns
+pub mod RunMeaning

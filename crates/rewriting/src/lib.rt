@@ -3,4 +3,5 @@ pub mod asking;
 mod building;
 mod matching;
 mod placing;
+pub mod running;
 mod stepping;

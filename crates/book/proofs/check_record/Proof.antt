@@ -22,11 +22,11 @@ whole-here c =
     let a = c .before .before .before .before .args in
     le-leb (a .at + 1 + bodyLength (a .kind)) (a .len) (omega (arith, c .before .body-length .ensures))
 
-allowed-here : (c : tie.Else3) → let a = c .before .before .before .before .before .before .args in allowed (kindOf (a .kind)) (a .stage) ≡ true
-allowed-here c = sym (c .before .is-allowed .ensures) ∙ not-false _ (c .if3 .left)
+allowed-here : (c : tie.Else3) → let a = c .before .before .before .before .before .before .before .before .args in allowed (kindOf (a .kind)) (a .stage) ≡ true
+allowed-here c = sym (c .before .before .before .is-allowed .ensures) ∙ not-false _ (c .if3 .left)
 
-fits-here : (c : tie.Else4) → let a = c .before .before .before .before .before .before .before .before .args in bodyFits (kindOf (a .kind)) (a .symbols) (a .body) ≡ true
-fits-here c = sym (c .before .body-fits .ensures) ∙ not-false _ (c .if4 .left)
+fits-here : (c : tie.Else4) → let a = c .before .before .before .before .before .before .before .before .before .args in bodyFits (kindOf (a .kind)) (a .symbols) (a .body) ≡ true
+fits-here c = sym (c .before .before .before .body-fits .ensures) ∙ not-false _ (c .if4 .left)
 
 is-known-requires : tie.Need-is-known-requires
 is-known-requires c κs = search needs
@@ -35,8 +35,7 @@ returns : tie.Need-returns
 unfolding checkedAs
 returns c =
     let a = c .before .before .args in
-    ap checkedAs (sym (refused-2 (a .len) (a .at) (a .kind) (a .body) (a .stage) (a .symbols) (a .rules) (a .nodes)
-    (sym (c .before .is-known .ensures) ∙ not-true _ (c .if1 .taken))))
+    ap checkedAs (sym (refused-2 (a .len) (a .at) (a .kind) (a .body) (a .stage) (a .symbols) (a .rules) (a .nodes) (sym (c .before .is-known .ensures) ∙ not-true _ (c .if1 .taken))))
 
 sub-if2 : tie.Need-sub-if2
 sub-if2 c = search needs
@@ -51,48 +50,53 @@ returns-2 : tie.Need-returns-2
 unfolding checkedAs
 returns-2 c =
     let a = c .before .before .before .before .args in
-    ap checkedAs (sym (refused-1 (a .len) (a .at) (a .kind) (a .body) (a .stage) (a .symbols) (a .rules) (a .nodes) (known-here (c .before .before))
+    ap checkedAs
+    (sym (refused-1 (a .len) (a .at) (a .kind) (a .body) (a .stage) (a .symbols) (a .rules) (a .nodes) (known-here (c .before .before))
     (lt-leb (a .at + 1 + bodyLength (a .kind)) (a .len) (omega (arith, c .before .body-length .ensures)))))
 
 is-allowed-requires : tie.Need-is-allowed-requires
 is-allowed-requires c κs = search needs
 
-returns-3 : tie.Need-returns-3
-unfolding checkedAs
-returns-3 c =
-    let a = c .before .before .before .before .before .before .args in
-    ap checkedAs (sym (refused-3 (a .len) (a .at) (a .kind) (a .body) (a .stage) (a .symbols) (a .rules) (a .nodes) (known-here (c .before .before .before .before)) (whole-here (c .before .before))
-    (sym (c .before .is-allowed .ensures) ∙ not-true _ (c .if3 .taken))))
-
 body-fits-requires : tie.Need-body-fits-requires
 body-fits-requires c κs = search needs
 
-add-t17 : tie.Need-add-t17
-add-t17 c = search needs
+room-left-requires : tie.Need-room-left-requires
+room-left-requires c κs = search needs
+
+returns-3 : tie.Need-returns-3
+unfolding checkedAs
+returns-3 c =
+    let a = c .before .before .before .before .before .before .before .before .args in
+    ap checkedAs
+    (sym (refused-3 (a .len) (a .at) (a .kind) (a .body) (a .stage) (a .symbols) (a .rules) (a .nodes) (known-here (c .before .before .before .before .before .before)) (whole-here (c .before .before .before .before))
+    (sym (c .before .before .before .is-allowed .ensures) ∙ not-true _ (c .if3 .taken))))
+
+add-t20 : tie.Need-add-t20
+add-t20 c = search needs
 
 returns-4 : tie.Need-returns-4
 unfolding checkedAs
 returns-4 c =
-    let a = c .before .before .before .before .before .before .before .before .args in
-    ap checkedAs (sym (refused-4 (a .len) (a .at) (a .kind) (a .body) (a .stage) (a .symbols) (a .rules) (a .nodes) (known-here (c .before .before .before .before .before .before)) (whole-here (c .before .before .before .before)) (allowed-here (c .before .before))
-    (sym (c .before .body-fits .ensures) ∙ not-true _ (c .if4 .taken))))
-
-room-left-requires : tie.Need-room-left-requires
-room-left-requires c κs = search needs
+    let a = c .before .before .before .before .before .before .before .before .before .args in
+    ap checkedAs
+    (sym (refused-4 (a .len) (a .at) (a .kind) (a .body) (a .stage) (a .symbols) (a .rules) (a .nodes) (known-here (c .before .before .before .before .before .before .before)) (whole-here (c .before .before .before .before .before)) (allowed-here (c .before))
+    (sym (c .before .before .before .body-fits .ensures) ∙ not-true _ (c .if4 .taken))))
 
 returns-5 : tie.Need-returns-5
 unfolding checkedAs
 returns-5 c =
     let a = c .before .before .before .before .before .before .before .before .before .before .args in
-    ap checkedAs (sym (refused-5 (a .len) (a .at) (a .kind) (a .body) (a .stage) (a .symbols) (a .rules) (a .nodes) (known-here (c .before .before .before .before .before .before .before .before)) (whole-here (c .before .before .before .before .before .before)) (allowed-here (c .before .before .before .before)) (fits-here (c .before .before))
-    (sym (c .before .room-left .ensures) ∙ not-true _ (c .if5 .taken))))
+    ap checkedAs
+    (sym (refused-5 (a .len) (a .at) (a .kind) (a .body) (a .stage) (a .symbols) (a .rules) (a .nodes) (known-here (c .before .before .before .before .before .before .before .before)) (whole-here (c .before .before .before .before .before .before)) (allowed-here (c .before .before)) (fits-here (c .before))
+    (sym (c .before .before .before .room-left .ensures) ∙ not-true _ (c .if5 .taken))))
 
 returns-6 : tie.Need-returns-6
 unfolding checkedAs
 returns-6 c =
     let a = c .before .before .before .before .before .before .before .before .before .before .args in
-    ap checkedAs (sym (taken (a .len) (a .at) (a .kind) (a .body) (a .stage) (a .symbols) (a .rules) (a .nodes) (known-here (c .before .before .before .before .before .before .before .before)) (whole-here (c .before .before .before .before .before .before)) (allowed-here (c .before .before .before .before)) (fits-here (c .before .before))
-    (sym (c .before .room-left .ensures) ∙ not-false _ (c .if5 .left))))
+    ap checkedAs
+    (sym (taken (a .len) (a .at) (a .kind) (a .body) (a .stage) (a .symbols) (a .rules) (a .nodes) (known-here (c .before .before .before .before .before .before .before .before)) (whole-here (c .before .before .before .before .before .before)) (allowed-here (c .before .before)) (fits-here (c .before))
+    (sym (c .before .before .before .room-left .ensures) ∙ not-false _ (c .if5 .left))))
 
 pub check-record-spec : {M : Type 1} → statement M
 check-record-spec =
@@ -105,10 +109,10 @@ check-record-spec =
     body-length-requires
     returns-2
     is-allowed-requires
-    returns-3
     body-fits-requires
-    add-t17
-    returns-4
     room-left-requires
+    returns-3
+    add-t20
+    returns-4
     returns-5
     returns-6)

@@ -1,0 +1,50 @@
+-- What the answers of the run mean: the run's reply, with the length of the record that the lent buffer holds.
+use Prim.Native.Nat.{ℕ, _≤_}
+use mathlib.Core.List.{List}
+use mathlib.Core.Path.{_≡_}
+use lib.ListN.{length}
+use Rattle.reply.specs.Reply.{Reply, given, refused, _>>=_, _at_}
+use Rattle.reply.specs.Lent.{laid}
+use Rattle.term.specs.Term.{Term}
+use Rattle.term.specs.Prefix.{recordBytes}
+use Rattle.term.specs.At.{At}
+use Rattle.book.specs.Book.{Rule}
+use Rattle.rewriting.specs.Run.{Outcome, Ran, runFrom}
+use Rattle.rewriting.specs.Asked.{unreadable}
+use Rattle.rewriting.specs.Turns.{outcomeOf}
+use Rattle.rewriting.specs.declared.running.RunReply.{RunReply}
+use Rattle.rewriting.specs.declared.running.RunReply.the-variants.{RanTo, Unreadable, WrongCount, NotDecreasing, Malformed, ShortBuffer}
+
+-- A run as it is told: the term itself lies in the lent buffer.
+pub record Told : Type 0 where
+  pub outcome : Outcome
+  pub steps : ℕ
+  pub length : ℕ
+
+unfoldable pub toldOf : Ran → Told
+toldOf ran = record { outcome = ran .outcome; steps = ran .steps; length = length (recordBytes (ran .reached)) }
+
+unfoldable pub runTold : Reply Ran → Reply Told
+runTold reply = do
+  ran ← reply
+  given (toldOf ran)
+
+-- "run 7, 8, 11, 9".
+unfoldable pub runMeaning : RunReply → Reply Told
+runMeaning (RanTo outcome steps length) = given (record { outcome = outcomeOf outcome; steps = steps; length = length })
+runMeaning (Unreadable verdict) = unreadable verdict
+runMeaning WrongCount = refused (7 at 0)
+runMeaning (NotDecreasing rule) = refused (8 at rule)
+runMeaning Malformed = refused (11 at 0)
+runMeaning ShortBuffer = refused (9 at 0)
+
+-- The record's term stands in its first `length` bytes, at most 256 nodes.
+pub record RecordAt (bytes arities : List ℕ) (length : ℕ) : Type 0 where
+  pub term : Term
+  pub stands : At bytes arities 0 term length
+  pub small : length ≤ 512
+
+-- A record was run: the reply tells the run, and the term reached lies in the buffer with its end record.
+pub record RecordRun (rules : List Rule) (t : Term) (budget : ℕ) (reply : RunReply) (before after : List ℕ) : Type 0 where
+  pub replied : runMeaning reply ≡ given (toldOf (runFrom rules budget 0 t))
+  pub written : after ≡ laid (given (recordBytes (runFrom rules budget 0 t .reached))) before
