@@ -14,5 +14,7 @@ pub mod LineKinds
 pub mod AllLines
 pub mod Told
 pub mod RanksAgree
+pub mod RankSums
+pub mod Afterwards
 pub mod Usual
 pub mod UsualRanks

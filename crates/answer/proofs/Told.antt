@@ -9,7 +9,7 @@ use lib.Dec.{leb, eqb}
 use lib.ListN.{length}
 use Rattle.reply.specs.Reply.{Refusal, Reply, given, refused, unless, _>>_, _>>=_, _at_}
 use Rattle.reply.specs.Text.{pieces, newline}
-use Rattle.clauses.specs.Cnf.{Literal}
+use Rattle.clauses.specs.Cnf.{Literal, Assignment}
 use Rattle.clauses.specs.Item.{Item, closing, literal, faulty, item}
 use Rattle.answer.specs.Values.{Values, unclosed, closed, variableOf, names, named, itemAfter, itemsAfter}
 use Rattle.answer.specs.Lines.{
@@ -33,6 +33,9 @@ use Rattle.answer.specs.Lines.{
 use Rattle.answer.specs.Ranks.{valued}
 use Rattle.answer.specs.Table.{tableOf}
 use Rattle.answer.specs.Told.{noValues, tabled, assigned, verdictMeaning, meaning, Agrees}
+use Rattle.answer.specs.declared.lines.AnswerRead.{AnswerRead}
+use Rattle.answer.specs.declared.lines.Verdict.the-variants as Verdicts
+use Rattle.answer.specs.declared.lines.Verdict.the-variants.{Malformed, NoModel}
 use Rattle.answer.proofs.Marks.{table-at, valued-by-mark}
 
 -- A reply whose refusals all have a property.
@@ -130,3 +133,34 @@ pub tabled-agrees :
     (variables rankVariables : ℕ) (text : List ℕ) →
     Agrees (readAnswer variables rankVariables text) (meaning (tabled (readAnswer variables rankVariables text)))
 tabled-agrees variables rankVariables text = agrees (readAnswer variables rankVariables text) (answer-only variables rankVariables text)
+
+-- An answer by its struct: refused as the struct means, or values that its table has.
+module _ (variables rankVariables : ℕ) (text : List ℕ) (read : AnswerRead) (settled : read ≡ tabled (readAnswer variables rankVariables text)) where
+  read-agrees : {x : Reply Assignment} → meaning read ≡ x → Agrees (readAnswer variables rankVariables text) x
+  read-agrees e =
+      subst (Agrees (readAnswer variables rankVariables text)) (ap meaning (sym settled) ∙ e) (tabled-agrees variables rankVariables text)
+
+  told-refused : (x : Reply (List Literal)) (r : Refusal) → Agrees x (refused r) → x ≡ refused r
+  told-refused (given ls) r a = absurd a
+  told-refused (refused s) r a = ap (λ (q : Refusal). refused q) a
+
+  told-given :
+      (x : Reply (List Literal)) (α : Assignment) → Agrees x (given α) →
+      (ls : List Literal) × (x ≡ given ls) × ((v : ℕ) → 1 ≤ v → v ≤ 64 → α v ≡ valued ls v)
+  told-given (given ls) α a = (ls, refl, a)
+  told-given (refused r) α a = absurd a
+
+  pub read-malformed : (p : ℕ) → read .verdict ≡ Malformed p → readAnswer variables rankVariables text ≡ refused (13 at p)
+  unfolding meaning verdictMeaning
+  read-malformed p e = told-refused (readAnswer variables rankVariables text) (13 at p) (read-agrees (ap (λ v. verdictMeaning v (read .table)) e))
+
+  pub read-no-model : read .verdict ≡ NoModel → readAnswer variables rankVariables text ≡ refused (14 at 0)
+  unfolding meaning verdictMeaning
+  read-no-model e = told-refused (readAnswer variables rankVariables text) (14 at 0) (read-agrees (ap (λ v. verdictMeaning v (read .table)) e))
+
+  pub read-values :
+      read .verdict ≡ Verdicts.Values →
+      (ls : List Literal) × (readAnswer variables rankVariables text ≡ given ls) × ((v : ℕ) → 1 ≤ v → v ≤ 64 → assigned (read .table) v ≡ valued ls v)
+  unfolding meaning verdictMeaning
+  read-values e =
+      told-given (readAnswer variables rankVariables text) (assigned (read .table)) (read-agrees (ap (λ v. verdictMeaning v (read .table)) e))

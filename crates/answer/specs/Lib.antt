@@ -6,4 +6,6 @@ pub mod Items
 pub mod Table
 pub mod Told
 pub mod Usual
+pub mod RankTable
+pub mod Answered
 pub mod Computing

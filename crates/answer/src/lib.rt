@@ -1,5 +1,77 @@
 // A solver's answer. The definitions stand in specs/.
 mod items;
 pub mod lines;
+mod ranks;
 mod text;
 mod values;
+
+use book::Book;
+use book::BookVerdict;
+use lines::Verdict;
+use lines::read_values;
+use order::Decrease;
+use ranks::ranks_of;
+ghost use mathlib.Core.Path.{_≡_};
+ghost use Prim.Native.Nat.{_≤_};
+ghost use lib.ListN.{length};
+ghost use Rattle.reply.specs.Lent.{laid};
+ghost use Rattle.book.specs.Meaning.{bookAt};
+ghost use Rattle.order.specs.Standing.{BookStands};
+ghost use Rattle.clauses.specs.Blocks.{«V»};
+ghost use Rattle.answer.specs.Ranks.{answered};
+ghost use Rattle.answer.specs.Told.{assigned};
+ghost use Rattle.answer.specs.Answered.{answeredMeaning, counted, ranksChecked};
+
+// What comes of an answer: so many ranks accepted, or the refusal.
+pub enum Answered {
+    Accepted(usize),
+    Unreadable(BookVerdict),
+    TooLong,
+    Malformed(usize),
+    NoModel,
+    ShortBuffer,
+    NotDecreasing(usize),
+}
+
+// "9, 8", of the rank variables' values; "Accepted ranks are written to the first n bytes of the lent buffer".
+fn checked_ranks(bytes: &[u8], book: Book, table: [u8; 64], out: &mut [u8]) -> Answered
+    requires { ⌜ BookStands (now bytes) book (bookAt (now bytes) book) ⌝ }
+    ensures means { λ r. ⌜ answeredMeaning r ≡ counted (ranksChecked (bookAt (now (bytes .entry)) book) (assigned table) (length (now (out .entry)))) ⌝ }
+    ensures lays { λ _. ⌜ now (out .exit) ≡ laid (ranksChecked (bookAt (now (bytes .entry)) book) (assigned table) (length (now (out .entry)))) (now (out .entry)) ⌝ }
+{
+    let symbols = book.symbols;
+    if out.len() < symbols {
+        return Answered::ShortBuffer;
+    }
+    let ranks = ranks_of(&table, symbols, term::rank_bits(symbols));
+    match order::first_not_decreasing(bytes, book, ranks) {
+        Decrease::NotAt(rule) => Answered::NotDecreasing(rule),
+        Decrease::Everywhere => {
+            term::copy(&ranks, 0, symbols, out);
+            Answered::Accepted(symbols)
+        }
+    }
+}
+
+// "answer 12, 13, 14, 9, 8", of a book that stands at its places; `variables` is the V of its clause file.
+fn answer_to(bytes: &[u8], book: Book, variables: usize, text: &[u8], out: &mut [u8]) -> Answered
+    requires { ⌜ BookStands (now bytes) book (bookAt (now bytes) book) ⌝ }
+    requires { ⌜ variables ≡ «V» (bookAt (now bytes) book) ⌝ }
+    ensures means { λ r. ⌜ answeredMeaning r ≡ counted (answered (bookAt (now (bytes .entry)) book) (now (text .entry)) (length (now (out .entry)))) ⌝ }
+    ensures lays { λ _. ⌜ now (out .exit) ≡ laid (answered (bookAt (now (bytes .entry)) book) (now (text .entry)) (length (now (out .entry)))) (now (out .entry)) ⌝ }
+{
+    if 65536 < text.len() {
+        return Answered::TooLong;
+    }
+    let symbols = book.symbols;
+    let read = read_values(text, variables, symbols * term::rank_bits(symbols));
+    let verdict = read.verdict;
+    match verdict {
+        Verdict::Malformed(place) => Answered::Malformed(place),
+        Verdict::NoModel => Answered::NoModel,
+        Verdict::Values => {
+            let table = read.table;
+            checked_ranks(bytes, book, table, out)
+        }
+    }
+}

@@ -25,3 +25,17 @@ pub mod Dimacs
 pub mod Weights
 pub mod Counts
 pub mod Bounds
+pub mod Laid
+pub mod LastDigit
+pub mod Lists
+pub mod BothWays
+pub mod PairNumbers
+pub mod Walk
+pub mod Identical
+pub mod Behind
+pub mod PartsAt
+pub mod NodesBlock
+pub mod Elements
+pub mod SubtermsAt
+pub mod BlockNumbers
+pub mod RuleNumbers

@@ -1,1 +1,6 @@
-// The clause file. The definitions stand in specs/.
+// The clause file of a book: its blocks, laid into lent buffers. The definitions stand in specs/.
+mod nodes;
+mod pairs;
+mod parts;
+mod rules;
+mod writing;

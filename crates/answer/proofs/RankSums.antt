@@ -1,0 +1,121 @@
+-- A rank as a sum over bits, bit by bit, and a table of ranks, symbol by symbol. Assumes nothing.
+use Prim.Native.Nat.{ℕ, zero, suc, _+_, _-_, _*_, _^_, _≤_, _<_}
+use mathlib.Core.Bool.{Bool, true, false}
+use mathlib.Core.List.{List, [], _∷_, _++_, map, append-assoc}
+use mathlib.Core.Path.{_≡_, refl, sym, ap, ap₂, _∙_}
+use native.Mathlib.Numerals.{add-one}
+use native.Mathlib.Nat.{pow-suc, suc-mul, mul-le-mul-right}
+use native.Mathlib.Omega.{arith}
+use lib.Dec.{eqb}
+use lib.ListN.{length, getD, set, replicate, length-map}
+use lib.Seq.{set-at}
+use borrow.Author.Tests.{eq-eqb, ne-eqb}
+use Rattle.order.specs.RankTable.{SameRanks}
+use Rattle.clauses.specs.Cnf.{Assignment}
+use Rattle.clauses.specs.Numbering.{bit, numbers, rankBelow, ranksOf}
+use Rattle.clauses.proofs.Larger.{rankBelow-bound}
+use Rattle.answer.specs.Told.{assigned}
+use Rattle.answer.specs.RankTable.{rankTable}
+use Rattle.answer.proofs.Checked.{length-ranksOf}
+
+small-power : (b : ℕ) → b ≤ 4 → 2 ^ b ≤ 16
+small-power zero h = omega arith
+small-power (suc zero) h = omega arith
+small-power (suc (suc zero)) h = omega arith
+small-power (suc (suc (suc zero))) h = omega arith
+small-power (suc (suc (suc (suc zero)))) h = omega arith
+small-power (suc (suc (suc (suc (suc b))))) h = absurd (omega arith)
+
+-- The bits below b are summed; the weight of bit b is 2^b, and it stands at f·k + b of the table.
+pub record Summed (k f : ℕ) (table : List ℕ) (rank weight b : ℕ) : Type 0 where
+  pub within : b ≤ k
+  pub sum : rank ≡ rankBelow k (assigned table) f b
+  pub power : weight ≡ 2 ^ b
+
+pub no-bits : (k f : ℕ) (table : List ℕ) → Summed k f table 0 1 0
+unfolding rankBelow
+no-bits k f table = record { within = omega arith; sum = refl; power = refl }
+
+module _ (k f : ℕ) (table : List ℕ) {rank weight b : ℕ} (s : Summed k f table rank weight b) where
+  -- Over at most four bits everything is small.
+  pub small : k ≤ 4 → (rank < 16) × (weight ≤ 16)
+  small h = (omega (arith, rankBelow-bound k (assigned table) f b, least, s .sum), omega (arith, least, s .power))
+    where
+      least : 2 ^ b ≤ 16
+      least = small-power b (omega (arith, s .within))
+
+  pub all-bits : k ≤ b → rank ≡ rankBelow k (assigned table) f k
+  all-bits h = s .sum ∙ ap (rankBelow k (assigned table) f) (omega (arith, s .within))
+
+  module _ (more : b < k) where
+    bit-at : assigned table (bit k f b) ≡ eqb (getD table (f * k + b) 0) 1
+    unfolding assigned bit
+    bit-at = ap (λ (i : ℕ). eqb (getD table i 0) 1) (omega arith)
+
+    next-power : weight * 2 ≡ 2 ^ suc b
+    next-power = omega (arith, pow-suc 2 b, s .power)
+
+    pub bit-set : getD table (f * k + b) 0 ≡ 1 → Summed k f table (rank + weight) (weight * 2) (b + 1)
+    unfolding rankBelow
+    bit-set e = rw add-one (record { within = more; sum = summed; power = next-power })
+      where
+        summed : rank + weight ≡ rankBelow k (assigned table) f (suc b)
+        summed = rw (rankBelow, bit-at, eq-eqb _ _ e) (ap₂ (λ (x y : ℕ). x + y) (s .sum) (s .power))
+
+    pub bit-clear : (getD table (f * k + b) 0 ≡ 1 → ⊥) → Summed k f table rank (weight * 2) (b + 1)
+    unfolding rankBelow
+    bit-clear d = rw add-one (record { within = more; sum = summed; power = next-power })
+      where
+        summed : rank ≡ rankBelow k (assigned table) f (suc b)
+        summed = rw (rankBelow, bit-at, ne-eqb _ _ d) (s .sum)
+
+-- A table of ranks, symbol by symbol.
+ranks-behind :
+    (g : ℕ → ℕ) (first count : ℕ) → map g (numbers first (suc count)) ≡ map g (numbers first count) ++ (g (first + count) ∷ [])
+unfolding numbers
+ranks-behind g first zero = ap (λ (n : ℕ). g n ∷ []) (omega arith)
+ranks-behind g first (suc count) =
+    ap (λ (rs : List ℕ). g first ∷ rs) (ranks-behind g (suc first) count)
+    ∙ ap (λ (n : ℕ). g first ∷ map g (numbers (suc first) count) ++ (g n ∷ [])) (omega arith)
+
+module _ (k : ℕ) (α : Assignment) where
+  pub no-ranks : replicate 16 0 ≡ rankTable 0 k α
+  unfolding rankTable ranksOf numbers
+  no-ranks = refl
+
+  pub next-rank : (f r : ℕ) → f < 16 → r ≡ rankBelow k α f k → set (rankTable f k α) f r ≡ rankTable (f + 1) k α
+  unfolding rankTable ranksOf
+  next-rank f r h e = rw (add-one, room) (set-at (ranksOf f k α) 0 rest r f (length-ranksOf f k α) ∙ sym as-laid)
+    where
+      room : 16 - f ≡ suc (16 - suc f)
+      room = omega arith
+
+      rest : List ℕ
+      rest = replicate (16 - suc f) 0
+
+      last : rankBelow k α (0 + f) k ≡ r
+      last = ap (λ (g : ℕ). rankBelow k α g k) (omega arith) ∙ sym e
+
+      as-laid : ranksOf (suc f) k α ++ rest ≡ ranksOf f k α ++ r ∷ rest
+      as-laid =
+          ap (λ (rs : List ℕ). rs ++ rest) (ranks-behind (λ g. rankBelow k α g k) 0 f)
+          ∙ append-assoc (ranksOf f k α) (rankBelow k α (0 + f) k ∷ []) rest
+          ∙ ap (λ (n : ℕ). ranksOf f k α ++ n ∷ rest) last
+
+  pub all-ranks : (n f : ℕ) (ranks : List ℕ) → f ≤ n → n ≤ f → ranks ≡ rankTable f k α → ranks ≡ rankTable n k α
+  all-ranks n f ranks h h′ e = e ∙ ap (λ (m : ℕ). rankTable m k α) (omega arith)
+
+-- The bits of one symbol stand before those of the next.
+pub bits-within : (n k f : ℕ) → f < n → n * k ≤ 64 → f * k + k ≤ 64
+bits-within n k f h room = omega (arith, mul-le-mul-right k h, suc-mul f k)
+
+-- Zeros behind the ranks change no rank: a symbol without one counts as one of rank 0.
+zeros : (m i : ℕ) → _≡_ {A = ℕ} (getD (replicate m 0) i 0) 0
+zeros zero i = refl
+zeros (suc m) zero = refl
+zeros (suc m) (suc i) = zeros m i
+
+pub padded-ranks : (ranks : List ℕ) (m : ℕ) → SameRanks (ranks ++ replicate m 0) ranks
+padded-ranks [] m i = zeros m i
+padded-ranks (r ∷ ranks) m zero = refl
+padded-ranks (r ∷ ranks) m (suc i) = padded-ranks ranks m i
