@@ -1,7 +1,7 @@
 -- "Afterwards: .. answer 12, 13, 14, 9, 8": what each refusal and what accepted ranks mean, and what the lent buffer holds then.
 -- Assumes nothing.
 use Prim.Native.Nat.{ℕ, _-_, _*_, _≤_, _<_}
-use mathlib.Core.List.{List, _++_}
+use mathlib.Core.List.{List, [], _++_}
 use mathlib.Core.Path.{_≡_, refl, sym, ap, ap₂, subst, _∙_}
 use native.Mathlib.Nat.{le-trans, mul-le-mul}
 use native.Mathlib.Omega.{arith}
@@ -33,7 +33,7 @@ use Rattle.answer.specs.Lines.{readAnswer}
 use Rattle.answer.specs.Ranks.{valued, answered, ranksFromAnswer}
 use Rattle.answer.specs.Told.{tabled, assigned}
 use Rattle.answer.specs.RankTable.{rankTable}
-use Rattle.answer.specs.Answered.{answeredMeaning, counted, ranksChecked}
+use Rattle.answer.specs.Answered.{answeredMeaning, counted, ranksChecked, acceptedAs, ranksIn}
 use Rattle.answer.specs.declared.Answered.{Answered}
 use Rattle.answer.specs.declared.Answered.the-variants.{Accepted, Unreadable, TooLong, Malformed, NoModel, ShortBuffer, NotDecreasing}
 use Rattle.answer.specs.declared.lines.AnswerRead.{AnswerRead}
@@ -91,36 +91,41 @@ module _ (book : Book) (α : Assignment) (buffer : List ℕ) where
           ap (λ (l : List ℕ). allDecrease l 0 (book .rules)) as-table
           ∙ all-decrease-same _ _ (padded-ranks (ranksOf (symbols book) (rankBits (symbols book)) α) (16 - symbols book)) 0 (book .rules)
 
-      module _ (d : Decrease) (answer : decreaseMeaning d ≡ allDecrease ranks 0 (book .rules)) where
-        asked-so :
-            {d′ : Decrease} → d ≡ d′ →
-            ranksChecked book α (length buffer) ≡ _>>_ (decreaseMeaning d′) (given (ranksOf (symbols book) (rankBits (symbols book)) α))
-        asked-so e =
-            checked
-            ∙ ap (λ (x : Reply (Unit {0})). _>>_ x (given (ranksOf (symbols book) (rankBits (symbols book)) α)))
-            (sym asked ∙ sym answer ∙ ap decreaseMeaning e)
+      -- By the check's answer.
+      by-answer :
+          (d : Decrease) → decreaseMeaning d ≡ allDecrease ranks 0 (book .rules) →
+          ranksChecked book α (length buffer) ≡ _>>_ (decreaseMeaning d) (given (ranksOf (symbols book) (rankBits (symbols book)) α))
+      by-answer d answer =
+          checked ∙ ap (λ (x : Reply (Unit {0})). _>>_ x (given (ranksOf (symbols book) (rankBits (symbols book)) α))) (sym asked ∙ sym answer)
 
-        pub not-decreasing : (rule : ℕ) → d ≡ NotAt rule → Allowed (ranksChecked book α (length buffer)) buffer (NotDecreasing rule) buffer
-        unfolding decreaseMeaning answeredMeaning _>>_
-        not-decreasing rule e = allowed-refused buffer (NotDecreasing rule) (asked-so e) refl
+      whole : copied ranks 0 n (length buffer) ≡ ranksOf (symbols book) (rankBits (symbols book)) α
+      whole =
+          copied-whole ranks 0 n (length buffer) (omega arith)
+          ∙ ap₂ (λ (m : ℕ) (l : List ℕ). take m l) all as-table
+          ∙ take-at (ranksOf (symbols book) (rankBits (symbols book)) α) (replicate (16 - symbols book) 0) (symbols book)
+          (length-ranksOf (symbols book) (rankBits (symbols book)) α)
+        where
+          all : n - 0 ≡ symbols book
+          all = omega arith
 
-        whole : copied ranks 0 n (length buffer) ≡ ranksOf (symbols book) (rankBits (symbols book)) α
-        whole =
-            copied-whole ranks 0 n (length buffer) (omega arith)
-            ∙ ap₂ (λ (m : ℕ) (l : List ℕ). take m l) all as-table
-            ∙ take-at (ranksOf (symbols book) (rankBits (symbols book)) α) (replicate (16 - symbols book) 0) (symbols book)
-            (length-ranksOf (symbols book) (rankBits (symbols book)) α)
-          where
-            all : n - 0 ≡ symbols book
-            all = omega arith
+      none : copied ranks 0 0 (length buffer) ≡ []
+      none = copied-whole ranks 0 0 (length buffer) (omega arith)
 
-        pub all-decrease :
-            (after : List ℕ) → d ≡ Everywhere → after ≡ overlaid (copied ranks 0 n (length buffer)) buffer →
-            Allowed (ranksChecked book α (length buffer)) buffer (Accepted n) after
-        unfolding decreaseMeaning _>>_
-        all-decrease after e laid =
-            allowed-given buffer after n (asked-so e) (count ∙ sym (length-ranksOf (symbols book) (rankBits (symbols book)) α))
-            (laid ∙ ap (λ (l : List ℕ). overlaid l buffer) whole)
+      laid-so :
+          (d : Decrease) → decreaseMeaning d ≡ allDecrease ranks 0 (book .rules) →
+          Allowed (ranksChecked book α (length buffer)) buffer (acceptedAs n d)
+          (overlaid (copied ranks 0 (ranksIn (acceptedAs n d)) (length buffer)) buffer)
+      unfolding decreaseMeaning answeredMeaning _>>_
+      laid-so Everywhere answer =
+          allowed-given buffer (overlaid (copied ranks 0 n (length buffer)) buffer) n (by-answer Everywhere answer)
+          (count ∙ sym (length-ranksOf (symbols book) (rankBits (symbols book)) α)) (ap (λ (l : List ℕ). overlaid l buffer) whole)
+      laid-so (NotAt rule) answer = rw none (allowed-refused buffer (NotDecreasing rule) (by-answer (NotAt rule) answer) refl)
+
+      -- As many ranks are laid as are accepted.
+      pub ranks-laid :
+          (d : Decrease) (r : Answered) (m : ℕ) (after : List ℕ) → decreaseMeaning d ≡ allDecrease ranks 0 (book .rules) → r ≡ acceptedAs n d →
+          m ≡ ranksIn r → after ≡ overlaid (copied ranks 0 m (length buffer)) buffer → Allowed (ranksChecked book α (length buffer)) buffer r after
+      ranks-laid d r m after answer verdict many laid = rw (laid, many, verdict) (laid-so d answer)
 
 same-ranks-checked :
     (book : Book) (room : ℕ) (α β : Assignment) →

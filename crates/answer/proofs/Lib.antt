@@ -18,3 +18,4 @@ pub mod RankSums
 pub mod Afterwards
 pub mod Usual
 pub mod UsualRanks
+pub mod Settled

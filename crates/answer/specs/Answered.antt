@@ -9,6 +9,8 @@ use Rattle.book.specs.Book.{Book, symbols}
 use Rattle.book.specs.Meaning.{told}
 use Rattle.order.specs.Clearing.{allDecrease}
 use Rattle.order.specs.Meaning.{refusalOnly}
+use Rattle.order.specs.declared.Decrease.{Decrease}
+use Rattle.order.specs.declared.Decrease.the-variants.{Everywhere, NotAt}
 use Rattle.clauses.specs.Cnf.{Assignment}
 use Rattle.clauses.specs.Numbering.{ranksOf}
 use Rattle.answer.specs.declared.Answered.{Answered}
@@ -37,3 +39,17 @@ ranksChecked book α room = do
   unless (leb (symbols book) room) (9 at 0)
   allDecrease (ranksOf (symbols book) (rankBits (symbols book)) α) 0 (book .rules)
   given (ranksOf (symbols book) (rankBits (symbols book)) α)
+
+-- What the check of ranks for so many symbols answers, and how many ranks an answer accepts.
+abbrev pub acceptedAs : (symbols : ℕ) → Decrease → Answered
+acceptedAs n Everywhere = Accepted n
+acceptedAs n (NotAt rule) = NotDecreasing rule
+
+abbrev pub ranksIn : Answered → ℕ
+ranksIn (Accepted n) = n
+ranksIn (Unreadable verdict) = 0
+ranksIn TooLong = 0
+ranksIn (Malformed p) = 0
+ranksIn NoModel = 0
+ranksIn ShortBuffer = 0
+ranksIn (NotDecreasing rule) = 0

@@ -20,7 +20,7 @@ ghost use Rattle.order.specs.Standing.{BookStands};
 ghost use Rattle.clauses.specs.Blocks.{«V»};
 ghost use Rattle.answer.specs.Ranks.{answered};
 ghost use Rattle.answer.specs.Told.{assigned};
-ghost use Rattle.answer.specs.Answered.{answeredMeaning, counted, ranksChecked};
+ghost use Rattle.answer.specs.Answered.{answeredMeaning, counted, ranksChecked, acceptedAs, ranksIn};
 
 // What comes of an answer: so many ranks accepted, or the refusal.
 pub enum Answered {
@@ -31,6 +31,26 @@ pub enum Answered {
     NoModel,
     ShortBuffer,
     NotDecreasing(usize),
+}
+
+// What the check of ranks for so many symbols answers.
+fn accepted(found: Decrease, symbols: usize) -> Answered
+    ensures { λ r. ⌜ r ≡ acceptedAs symbols found ⌝ }
+{
+    match found {
+        Decrease::Everywhere => Answered::Accepted(symbols),
+        Decrease::NotAt(rule) => Answered::NotDecreasing(rule),
+    }
+}
+
+// How many ranks an answer accepts.
+fn ranks_in(answer: Answered) -> usize
+    ensures { λ r. ⌜ r ≡ ranksIn answer ⌝ }
+{
+    match answer {
+        Answered::Accepted(symbols) => symbols,
+        _ => 0,
+    }
 }
 
 // "9, 8", of the rank variables' values; "Accepted ranks are written to the first n bytes of the lent buffer".
@@ -44,13 +64,9 @@ fn checked_ranks(bytes: &[u8], book: Book, table: [u8; 64], out: &mut [u8]) -> A
         return Answered::ShortBuffer;
     }
     let ranks = ranks_of(&table, symbols, term::rank_bits(symbols));
-    match order::first_not_decreasing(bytes, book, ranks) {
-        Decrease::NotAt(rule) => Answered::NotDecreasing(rule),
-        Decrease::Everywhere => {
-            term::copy(&ranks, 0, symbols, out);
-            Answered::Accepted(symbols)
-        }
-    }
+    let answer = accepted(order::first_not_decreasing(bytes, book, ranks), symbols);
+    term::copy(&ranks, 0, ranks_in(answer), out);
+    answer
 }
 
 // "answer 12, 13, 14, 9, 8", of a book that stands at its places; `variables` is the V of its clause file.

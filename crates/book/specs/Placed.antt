@@ -193,6 +193,6 @@ unfoldable pub answer : Attempt BookVerdict PlacedBook → ReadBook
 answer (given b) = record { verdict = Readable; book = b }
 answer (refused v) = record { verdict = v; book = nothingRead }
 
--- ENTRY POINT: read a book to places.
+-- The answered struct of a book, from its bytes.
 unfoldable pub placed : List ℕ → ReadBook
 placed bytes = answer (placedFrom (length bytes) bytes start 0)

@@ -39,3 +39,5 @@ pub mod Elements
 pub mod SubtermsAt
 pub mod BlockNumbers
 pub mod RuleNumbers
+pub mod RulesWalk
+pub mod RulesBlocks

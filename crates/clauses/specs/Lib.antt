@@ -9,4 +9,5 @@ pub mod Meaning
 pub mod Pairs
 pub mod Nodes
 pub mod Rules
+pub mod Read
 pub mod Computing

@@ -19,4 +19,5 @@ pub mod Bound
 pub mod Run
 pub mod TakingTurns
 pub mod RecordRuns
+pub mod RanOn
 pub mod Settled

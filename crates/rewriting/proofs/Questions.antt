@@ -6,14 +6,14 @@ use mathlib.Core.Path.{_≡_, refl, sym, ap, _∙_}
 use denote.Enum.Declared.{tagOf}
 use types.Run.{OneOf, miss}
 use lib.ListN.{take}
-use Rattle.reply.specs.Reply.{Attempt, Reply, given, refused, toldAs, _>>=_, _at_}
+use Rattle.reply.specs.Reply.{Reply, given, refused, toldAs, _>>=_, _at_}
 use Rattle.reply.proofs.Given.{given-bind}
 use Rattle.term.specs.Term.{Term}
 use Rattle.book.specs.Book.{Book}
 use Rattle.book.specs.Reading.{readBook}
-use Rattle.book.specs.Record.{Fault, refusalOf, recordTerm, readRecord}
+use Rattle.book.specs.Record.{refusalOf, recordTerm, readRecord}
 use Rattle.book.specs.Meaning.{aritiesOf, bookAt, told, meaning}
-use Rattle.book.specs.RecordMeaning.{recordMeaning, recordVerdict}
+use Rattle.book.specs.RecordMeaning.{recordMeaning}
 use Rattle.book.specs.declared.Book.{Book as Places}
 use Rattle.book.specs.declared.BookVerdict.{BookVerdict}
 use Rattle.book.specs.declared.BookVerdict.the-variants.{Readable, Ended, UnknownKind, NotAllowed, BadBody, TooMany, AfterEnd}
@@ -23,7 +23,6 @@ use Rattle.book.specs.declared.RecordVerdict.the-variants.{Whole, EndedEarly, W
 use Rattle.book.proofs.BookVerdict.{the-type as book-verdict}
 use Rattle.book.proofs.RecordVerdict.{the-type as record-verdict}
 use Rattle.book.proofs.Stands.{readable-given}
-use Rattle.book.proofs.RecordStands.{WholeTerm, whole-stands}
 use Rattle.rewriting.specs.Asked.{unreadable}
 
 -- A verdict that refuses the book.
@@ -70,20 +69,29 @@ told-malformed bytes arities (NotDeclared p) malforms = refl
 told-malformed bytes arities (TooManyNodes p) malforms = refl
 told-malformed bytes arities (AfterTheTerm p) malforms = refl
 
-module _ {A : Type 0} (bytes : List ℕ) (places : Places) (text : List ℕ) (next : Term → Reply A) where
+module _ (bytes : List ℕ) (places : Places) (text : List ℕ) where
   abbrev Declared : List ℕ
   Declared = take (places .symbols) (places .arities)
 
   -- The record was not read: 11.
-  pub record-refused :
+  pub record-malformed :
       (verdict : RecordVerdict) → recordMeaning text Declared verdict ≡ recordTerm Declared text → Malforms verdict →
-      refused (11 at 0) ≡ _>>=_ (readRecord (bookAt bytes places) text) next
-  unfolding readRecord bookAt aritiesOf _>>=_
-  record-refused verdict means malforms =
-      ap (λ (x : Reply Term). _>>=_ x next) (sym (told-malformed text Declared verdict malforms) ∙ ap (toldAs refusalOf) means)
+      readRecord (bookAt bytes places) text ≡ refused (11 at 0)
+  unfolding readRecord bookAt aritiesOf
+  record-malformed verdict means malforms = ap (toldAs refusalOf) (sym means) ∙ told-malformed text Declared verdict malforms
 
-  -- The record was read: the next question is asked of its term.
-  pub record-given :
-      (t : Term) → recordTerm Declared text ≡ given t → _>>=_ (readRecord (bookAt bytes places) text) next ≡ next t
+  -- The record was read.
+  pub record-whole : (t : Term) → recordTerm Declared text ≡ given t → readRecord (bookAt bytes places) text ≡ given t
   unfolding readRecord bookAt aritiesOf toldAs
-  record-given t is = given-bind (readRecord (bookAt bytes places) text) next t (ap (toldAs refusalOf) is)
+  record-whole t is = ap (toldAs refusalOf) is
+
+  -- So a question about its term is refused with 11, or asked of it.
+  module _ {A : Type 0} (next : Term → Reply A) where
+    pub record-refused :
+        (verdict : RecordVerdict) → recordMeaning text Declared verdict ≡ recordTerm Declared text → Malforms verdict →
+        refused (11 at 0) ≡ _>>=_ (readRecord (bookAt bytes places) text) next
+    unfolding _>>=_
+    record-refused verdict means malforms = ap (λ (x : Reply Term). _>>=_ x next) (sym (record-malformed verdict means malforms))
+
+    pub record-given : (t : Term) → recordTerm Declared text ≡ given t → _>>=_ (readRecord (bookAt bytes places) text) next ≡ next t
+    record-given t is = given-bind (readRecord (bookAt bytes places) text) next t (record-whole t is)

@@ -8,7 +8,7 @@ use native.Mathlib.Numerals.{add-one}
 use native.Mathlib.Omega.{arith}
 use lib.ListN.{length, getD, take, drop, set, replicate, length-append, length-replicate}
 use lib.Seq.{drop-cons, set-at, take-take, take-length, length-take-le}
-use Rattle.reply.specs.Reply.{Reply, given}
+use Rattle.reply.specs.Reply.{Reply, given, _>>=_}
 use Rattle.reply.specs.Lent.{laid}
 use Rattle.term.specs.Term.{Term, size}
 use Rattle.term.specs.Prefix.{prefix, recordBytes}
@@ -18,9 +18,9 @@ use Rattle.term.proofs.At.{at-end, at-within}
 use Rattle.term.proofs.PrefixAt.{prefix-length, at-prefix, at-over, prefix-at}
 use Rattle.term.proofs.Copied.{copied-whole}
 use Rattle.book.specs.Book.{Rule}
-use Rattle.rewriting.specs.Run.{Ran, runFrom}
+use Rattle.rewriting.specs.Run.{Ran, runFrom, ranBytes}
 use Rattle.rewriting.specs.Turns.{held, TermIn, outcomeOf, RunTo}
-use Rattle.rewriting.specs.RunMeaning.{Told, toldOf, runMeaning, RecordRun}
+use Rattle.rewriting.specs.RunMeaning.{Told, toldOf, runTold, runMeaning, RunsTo}
 use Rattle.rewriting.specs.declared.running.Reached.{Reached}
 use Rattle.rewriting.specs.declared.running.RunReply.{RunReply}
 use Rattle.rewriting.specs.declared.running.RunReply.the-variants.{RanTo}
@@ -96,7 +96,8 @@ module _
 
   pub record-run-in :
       (after : List ℕ) → after ≡ overlaid (copied (held (reached .«in_one») one other) 0 (reached .length) (length out)) out →
-      RecordRun rules t budget (RanTo (reached .outcome) (reached .steps) (reached .length + 1)) out (set after (reached .length) 5)
+      RunsTo (given (runFrom rules budget 0 t)) (RanTo (reached .outcome) (reached .steps) (reached .length + 1)) out (set after (reached .length) 5)
+  unfolding runTold ranBytes _>>=_
   record-run-in after is = record { replied = replied; written = ap (λ (l : List ℕ). set l (reached .length) 5) is ∙ written }
 
 -- Which buffer it was copied from.

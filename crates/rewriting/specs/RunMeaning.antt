@@ -8,8 +8,7 @@ use Rattle.reply.specs.Lent.{laid}
 use Rattle.term.specs.Term.{Term}
 use Rattle.term.specs.Prefix.{recordBytes}
 use Rattle.term.specs.At.{At}
-use Rattle.book.specs.Book.{Rule}
-use Rattle.rewriting.specs.Run.{Outcome, Ran, runFrom}
+use Rattle.rewriting.specs.Run.{Outcome, Ran, ranBytes}
 use Rattle.rewriting.specs.Asked.{unreadable}
 use Rattle.rewriting.specs.Turns.{outcomeOf}
 use Rattle.rewriting.specs.declared.running.RunReply.{RunReply}
@@ -44,7 +43,8 @@ pub record RecordAt (bytes arities : List ℕ) (length : ℕ) : Type 0 where
   pub stands : At bytes arities 0 term length
   pub small : length ≤ 512
 
--- A record was run: the reply tells the run, and the term reached lies in the buffer with its end record.
-pub record RecordRun (rules : List Rule) (t : Term) (budget : ℕ) (reply : RunReply) (before after : List ℕ) : Type 0 where
-  pub replied : runMeaning reply ≡ given (toldOf (runFrom rules budget 0 t))
-  pub written : after ≡ laid (given (recordBytes (runFrom rules budget 0 t .reached))) before
+-- What an answer says of the run's reply, and what the lent buffer holds: "the term reached with its end record; later bytes keep their
+-- values".
+pub record RunsTo (reply : Reply Ran) (answer : RunReply) (before after : List ℕ) : Type 0 where
+  pub replied : runMeaning answer ≡ runTold reply
+  pub written : after ≡ laid (ranBytes reply) before

@@ -4,16 +4,23 @@ use crate::stepping::Stepped;
 use crate::stepping::step;
 use book::Book;
 use book::BookVerdict;
+use book::RecordVerdict;
+use order::RanksVerdict;
 ghost use Prim.Native.Nat.{_≤_};
 ghost use mathlib.Core.Bool.{true};
 ghost use mathlib.Core.List.{List};
 ghost use lib.ListN.{length};
+ghost use Rattle.reply.specs.Reply.{given};
 ghost use Rattle.term.specs.Term.{Term};
 ghost use Rattle.term.specs.At.{At};
 ghost use Rattle.book.specs.Book.{Rule};
+ghost use Rattle.book.specs.Limits.{WithinLimits};
+ghost use Rattle.book.specs.Meaning.{bookAt};
+ghost use Rattle.order.specs.Standing.{BookStands};
+ghost use Rattle.rewriting.specs.Run.{runFrom, ranOn, run};
 ghost use Rattle.rewriting.specs.Places.{RulesAt, Ruled};
 ghost use Rattle.rewriting.specs.Turns.{TermIn, Holding, Turned, RunTo};
-ghost use Rattle.rewriting.specs.RunMeaning.{RecordAt, RecordRun};
+ghost use Rattle.rewriting.specs.RunMeaning.{RecordAt, RunsTo};
 
 // How a run ended, after how many steps, and where the term reached lies: in which buffer, in how many bytes.
 pub struct Reached {
@@ -107,7 +114,7 @@ fn run_record(
     requires { ⌜ Ruled (now book) places ⌝ }
     requires { ⌜ RecordAt (now «record») (places .arities) size ⌝ }
     requires { ⌜ 513 ≤ length (now out) ⌝ }
-    ensures { λ r. ⌜ ((rules : List Rule) (t : Term) → RulesAt (now (book .entry)) places rules → At (now («record» .entry)) (places .arities) 0 t size → RecordRun rules t budget r (now (out .entry)) (now (out .exit))) ⌝ }
+    ensures { λ r. ⌜ ((rules : List Rule) (t : Term) → RulesAt (now (book .entry)) places rules → At (now («record» .entry)) (places .arities) 0 t size → RunsTo (given (runFrom rules budget 0 t)) r (now (out .entry)) (now (out .exit))) ⌝ }
 {
     let mut one = [0u8; 513];
     let mut other = [0u8; 513];
@@ -126,4 +133,56 @@ fn run_record(
         steps: reached.steps,
         length: length + 1,
     }
+}
+
+// "run 7, 8, 11, 9", of a book that was read.
+fn run_read(
+    book: &[u8],
+    places: Book,
+    ranks: &[u8],
+    record: &[u8],
+    budget: u64,
+    out: &mut [u8],
+) -> RunReply
+    requires { ⌜ BookStands (now book) places (bookAt (now book) places) ⌝ }
+    requires { ⌜ WithinLimits (bookAt (now book) places) ⌝ }
+    ensures { λ r. ⌜ RunsTo (ranOn (bookAt (now (book .entry)) places) (now (ranks .entry)) (now («record» .entry)) budget (length (now (out .entry)))) r (now (out .entry)) (now (out .exit)) ⌝ }
+{
+    let cleared = order::ranks_clear(book, places, ranks);
+    match cleared {
+        RanksVerdict::Accepted => {}
+        RanksVerdict::Unreadable(verdict) => {
+            return RunReply::Unreadable(verdict);
+        }
+        RanksVerdict::WrongCount => {
+            return RunReply::WrongCount;
+        }
+        RanksVerdict::NotDecreasing(rule) => {
+            return RunReply::NotDecreasing(rule);
+        }
+    }
+    let symbols = places.symbols;
+    let arities = places.arities;
+    let found = book::read_record(record, symbols, arities);
+    let RecordVerdict::Whole(nodes) = found else {
+        return RunReply::Malformed;
+    };
+    if out.len() < 513 {
+        return RunReply::ShortBuffer;
+    }
+    run_record(book, places, record, 2 * nodes, budget, out)
+}
+
+// Runs a record under a book that the ranks clear, against a budget. The start of the lent buffer then holds the term reached with its end
+// record; a refusal leaves it untouched.
+pub fn run(book: &[u8], ranks: &[u8], record: &[u8], budget: u64, out: &mut [u8]) -> RunReply
+    ensures { λ r. ⌜ RunsTo (run (now (book .entry)) (now (ranks .entry)) (now («record» .entry)) budget (length (now (out .entry)))) r (now (out .entry)) (now (out .exit)) ⌝ }
+{
+    let read = book::read_book(book);
+    let verdict = read.verdict;
+    let BookVerdict::Readable = verdict else {
+        return RunReply::Unreadable(verdict);
+    };
+    let places = read.book;
+    run_read(book, places, ranks, record, budget, out)
 }

@@ -1,0 +1,97 @@
+-- The rules' blocks from rule to rule: those of the first, and behind them those of the others, whose base is 2|l||r| larger.
+-- Assumes nothing.
+use Prim.Native.Nat.{ℕ, _+_, _-_, _*_, _≤_, _<_}
+use mathlib.Core.List.{List, [], _∷_, _++_, flatten}
+use mathlib.Core.Option.{none}
+use mathlib.Core.Path.{_≡_, refl, sym, ap, subst, _∙_}
+use native.Mathlib.Omega.{arith}
+use lib.ListN.{length, drop, getElem?, length-append, drop-of-length-le}
+use Rattle.term.specs.Tables.{rankBits}
+use Rattle.book.specs.Book.{Rule}
+use Rattle.book.specs.Meaning.{bookAt}
+use Rattle.book.specs.declared.Book.{Book as PlacedBook}
+use Rattle.clauses.specs.Cnf.{Clause}
+use Rattle.clauses.specs.Numbering.{firstBase, baseAfter}
+use Rattle.clauses.specs.Blocks.{Setting, ruleBlocks, rulesBlocks}
+use Rattle.clauses.specs.Nodes.{settingOf}
+use Rattle.clauses.specs.Read.{ReadFrom, settingAt, rulesOf, FoundIn, Finds}
+use Rattle.clauses.specs.declared.blocks.Found.the-variants.{InRule, Behind}
+use Rattle.clauses.specs.declared.nodes.Setting.{Setting as PlacedSetting}
+use Rattle.clauses.proofs.Elements.{element-left, element-right}
+use Rattle.clauses.proofs.RuleNumbers.{blocks-counted}
+use Rattle.clauses.proofs.RulesWalk.{RuleHere, rule-here, base-behind, read-there}
+
+-- The blocks of rule i and of those behind it.
+abbrev pub blocksFrom : (bytes : List ℕ) → PlacedBook → (base i : ℕ) → List (List Clause)
+blocksFrom bytes b base i = rulesBlocks (b .symbols) (rankBits (b .symbols)) base (drop i (bookAt bytes b .rules))
+
+module _ {bytes : List ℕ} {b : PlacedBook} where
+  pub blocks-parted :
+      {base i base′ : ℕ} (here : RuleHere bytes b base i) → base′ ≡ base + 2 * (settingAt b base i .height * settingAt b base i .width) →
+      blocksFrom bytes b base i ≡ ruleBlocks (settingOf (settingAt b base i)) (here .rule) ++ blocksFrom bytes b base′ (i + 1)
+  unfolding rulesBlocks settingOf settingAt
+  blocks-parted {base} {i} {base′} here e =
+      ap (rulesBlocks (b .symbols) (rankBits (b .symbols)) base) (here .next)
+      ∙ ap
+      (λ (w : ℕ).
+      ruleBlocks (record { n = b .symbols; k = rankBits (b .symbols); base = base; width = w }) (here .rule)
+      ++ rulesBlocks (b .symbols) (rankBits (b .symbols)) (baseAfter base (here .rule)) (drop (i + 1) (bookAt bytes b .rules)))
+      (here .stands .right .nodes)
+      ∙ ap
+      (λ (x : ℕ).
+      ruleBlocks (settingOf (settingAt b base i)) (here .rule)
+      ++ rulesBlocks (b .symbols) (rankBits (b .symbols)) x (drop (i + 1) (bookAt bytes b .rules)))
+      (base-behind here ∙ sym e)
+
+  pub blocks-ended : ReadFrom bytes b → (base i : ℕ) → b .rules ≤ i → blocksFrom bytes b base i ≡ []
+  unfolding rulesBlocks
+  blocks-ended read base i h =
+      ap (rulesBlocks (b .symbols) (rankBits (b .symbols)) base)
+      (drop-of-length-le (bookAt bytes b .rules) {i = i} (omega (arith, read-there read .ruleCount)))
+
+-- The block that is looked for is block `rest` from rule i on.
+abbrev pub Sought : PlacedBook → (number base i rest : ℕ) → Type 0
+Sought b number base i rest = (bytes : List ℕ) → ReadFrom bytes b → getElem? (rulesOf bytes b) number ≡ getElem? (blocksFrom bytes b base i) rest
+
+pub sought-starts : (b : PlacedBook) (number base : ℕ) → base ≡ firstBase (b .symbols) (rankBits (b .symbols)) → Sought b number base 0 number
+unfolding rulesOf
+sought-starts b number base e bytes read = ap (λ (x : ℕ). getElem? (blocksFrom bytes b x 0) number) (sym e)
+
+module _ {b : PlacedBook} (number base i rest : ℕ) (small : base ≤ 7424) (sought : Sought b number base i rest) where
+  pub sought-goes-on :
+      i < b .rules → (nodes : ℕ) → nodes ≡ settingAt b base i .height * settingAt b base i .width → nodes < rest →
+      Sought b number (base + 2 * nodes) (i + 1) (rest - (nodes + 1))
+  sought-goes-on h nodes e later bytes read = go (rule-here read base i small h)
+    where
+      go : RuleHere bytes b base i → getElem? (rulesOf bytes b) number ≡ getElem? (blocksFrom bytes b (base + 2 * nodes) (i + 1)) (rest - (nodes + 1))
+      go here =
+          let own = ruleBlocks (settingOf (settingAt b base i)) (here .rule) in
+          let split : length own + (rest - (nodes + 1)) ≡ rest = omega (arith, blocks-counted (here .stands)) in
+          sought bytes read
+          ∙ ap (λ (l : List (List Clause)). getElem? l rest) (blocks-parted here (ap (λ (x : ℕ). base + 2 * x) e))
+          ∙ ap (getElem? (own ++ blocksFrom bytes b (base + 2 * nodes) (i + 1))) (sym split)
+          ∙ element-right own (blocksFrom bytes b (base + 2 * nodes) (i + 1)) (rest - (nodes + 1))
+
+  pub sought-found :
+      i < b .rules → (c : PlacedSetting) → c ≡ settingAt b base i → rest ≤ c .height * c .width → (bytes : List ℕ) → ReadFrom bytes b →
+      Finds bytes b number (InRule c rest)
+  unfolding Finds
+  sought-found h c e within bytes read =
+      subst (λ (x : PlacedSetting). FoundIn bytes b number x rest) (sym e)
+      (go (rule-here read base i small h) (subst (λ (x : PlacedSetting). rest ≤ x .height * x .width) e within))
+    where
+      go : RuleHere bytes b base i → rest ≤ settingAt b base i .height * settingAt b base i .width → FoundIn bytes b number (settingAt b base i) rest
+      go here within′ =
+          record {
+            rule = here .rule;
+            stands = here .stands;
+            within = within′;
+            same =
+                sought bytes read
+                ∙ ap (λ (l : List (List Clause)). getElem? l rest) (blocks-parted here refl)
+                ∙ element-left (ruleBlocks (settingOf (settingAt b base i)) (here .rule)) _ rest (omega (arith, blocks-counted (here .stands)));
+          }
+
+  pub sought-none : b .rules ≤ i → (bytes : List ℕ) → ReadFrom bytes b → Finds bytes b number Behind
+  unfolding Finds
+  sought-none h bytes read = sought bytes read ∙ ap (λ (l : List (List Clause)). getElem? l rest) (blocks-ended read base i h)

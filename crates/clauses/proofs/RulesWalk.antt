@@ -1,0 +1,180 @@
+-- What is known of a read book, rule by rule: where its rules stand, and that the base which grows by 2|l||r| a rule ends at V.
+-- Assumes nothing.
+use Prim.Native.Nat.{ℕ, zero, suc, _+_, _*_, _≤_, _<_}
+use mathlib.Core.List.{List, [], _∷_, List·Memᴰ}
+use mathlib.Core.Path.{_≡_, refl, sym, ap, ap₂, subst, _∙_}
+use native.Mathlib.Numerals.{add-one}
+use native.Mathlib.Omega.{arith}
+use lib.Dec.{T}
+use lib.ListN.{length, getD, take, drop, drop-of-length-le}
+use lib.Seq.{drop-cons}
+use Rattle.reply.specs.Reply.{given}
+use Rattle.reply.proofs.Every.{Every, every-at, every-member, every-of-members}
+use Rattle.term.specs.Tables.{rankBits}
+use Rattle.term.specs.Term.{Term, var, app, size, count, over}
+use Rattle.term.specs.Root.{arguments}
+use Rattle.term.proofs.Tables.{rank-bits-least}
+use Rattle.book.specs.Book.{Book, Rule, symbols}
+use Rattle.book.specs.Limits.{WithinLimits, SideWithinLimits}
+use Rattle.book.specs.Reading.{readBook}
+use Rattle.book.specs.Placed.{placed}
+use Rattle.book.specs.Meaning.{bookAt, meaning}
+use Rattle.book.specs.declared.Book.{Book as PlacedBook}
+use Rattle.book.specs.declared.ReadBook.{ReadBook}
+use Rattle.book.specs.declared.BookVerdict.the-variants.{Readable}
+use Rattle.book.proofs.Limits.{read-within-limits}
+use Rattle.book.proofs.Placed.{placed-means}
+use Rattle.book.proofs.Stands.{Stands, read-stands, readable-given}
+use Rattle.book.proofs.Stands as book
+use Rattle.clauses.specs.Numbering.{firstBase, baseAfter}
+use Rattle.clauses.specs.Blocks.{Numbered, subterms, baseBehind, «V»}
+use Rattle.clauses.specs.Nodes.{Bounded}
+use Rattle.clauses.specs.Read.{ReadFrom, WasRead, settingAt}
+use Rattle.clauses.specs.Rules.{SideStands, RuleStands}
+use Rattle.clauses.proofs.Bounds.{variables-at-most}
+use Rattle.clauses.proofs.Elements.{element-member, element-there}
+use Rattle.clauses.proofs.Inside.{Inside, subterms-inside, arity-kept, symbol-declared}
+use Rattle.clauses.proofs.Numbers.{base-grows}
+use Rattle.clauses.proofs.PairNumbers.{product}
+
+-- What was read: the book of trees, which stands at the places and keeps to the limits.
+module _ {bytes : List ℕ} {b : PlacedBook} (read : ReadFrom bytes b) where
+  pub read-given : readBook bytes ≡ given (bookAt bytes b)
+  read-given =
+      sym (placed-means bytes)
+      ∙ ap (meaning bytes) (read .settled)
+      ∙ readable-given bytes (record { verdict = Readable; book = b }) refl
+
+  pub read-there : Stands bytes b (bookAt bytes b)
+  read-there =
+      read-stands bytes (record { verdict = Readable; book = b }) (bookAt bytes b) (sym (read .settled))
+      (readable-given bytes (record { verdict = Readable; book = b }) refl)
+
+  pub read-limits : WithinLimits (bookAt bytes b)
+  read-limits = read-within-limits bytes (bookAt bytes b) read-given
+
+  pub read-symbols : symbols (bookAt bytes b) ≡ b .symbols
+  unfolding symbols
+  read-symbols = sym (read-there .symbolCount)
+
+  pub read-few-symbols : b .symbols ≤ 16
+  read-few-symbols = omega (arith, read-symbols, read-limits .symbolCount)
+
+  pub read-few-rules : b .rules ≤ 32
+  read-few-rules = omega (arith, read-there .ruleCount, read-limits .ruleCount)
+
+pub rank-bits-few : (n : ℕ) → n ≤ 16 → rankBits n ≤ 4
+rank-bits-few n h = rank-bits-least n h .1 4 h
+
+-- The arguments of a subterm of a side are at most six.
+few-arguments : (arities : List ℕ) → ((a : ℕ) → List·Memᴰ a arities → a ≤ 6) → (t : Term) → T (over arities t) → count (arguments t) ≤ 6
+unfolding arguments count
+few-arguments arities six (var x) o = omega arith
+few-arguments arities six (app f ts) o =
+    omega (
+      arith,
+      arity-kept arities f ts o,
+      six (getD arities f 0) (element-member arities f (element-there arities f 0 (symbol-declared arities f ts o))),
+    )
+
+side-stands :
+    {bytes arities : List ℕ} {u many : ℕ} {side : Term} (declared : List ℕ) → ((a : ℕ) → List·Memᴰ a declared → a ≤ 6) →
+    SideWithinLimits declared side → book.SideStands bytes arities u many side → SideStands bytes arities u many side
+side-stands {side = side} declared six limits here =
+    record {
+      stands = here .stands;
+      nodes = here .nodes;
+      small = omega (arith, here .nodes, limits .nodes);
+      few = λ s m.
+          few-arguments declared six (s .term)
+          (every-member (Inside declared (size side)) m (subterms-inside declared side 0 (size side) (omega arith) (limits .overSymbols)) .overSymbols);
+    }
+
+-- Rule i.
+pub record RuleHere (bytes : List ℕ) (b : PlacedBook) (base i : ℕ) : Type 0 where
+  pub rule : Rule
+  pub stands : RuleStands bytes (b .arities) (settingAt b base i) rule
+  pub next : drop i (bookAt bytes b .rules) ≡ rule ∷ drop (i + 1) (bookAt bytes b .rules)
+
+pub rule-here : {bytes : List ℕ} {b : PlacedBook} → ReadFrom bytes b → (base i : ℕ) → base ≤ 7424 → i < b .rules → RuleHere bytes b base i
+unfolding settingAt
+rule-here {bytes} {b} read base i small h =
+    record {
+      rule = rule;
+      stands =
+          record {
+            bounded = record { symbols = read-few-symbols read; bits = rank-bits-few (b .symbols) (read-few-symbols read); base = small; width = right .small };
+            left = side-stands (bookAt bytes b .arities) (limits .arity) (limits .left rule member) (there .left i other h);
+            right = right;
+          };
+      next = drop-cons rules i other within ∙ ap (λ (j : ℕ). rule ∷ drop j rules) (sym (add-one i));
+    }
+  where
+    limits : WithinLimits (bookAt bytes b)
+    limits = read-limits read
+
+    there : Stands bytes b (bookAt bytes b)
+    there = read-there read
+
+    other : Rule
+    other = record { left = var 0; right = var 0 }
+
+    rules : List Rule
+    rules = bookAt bytes b .rules
+
+    rule : Rule
+    rule = getD rules i other
+
+    within : i < length rules
+    within = omega (arith, there .ruleCount)
+
+    member : List·Memᴰ rule rules
+    member = element-member rules i (element-there rules i other within)
+
+    right : SideStands bytes (b .arities) (getD (b .«right_at») i 0) (getD (b .«right_nodes») i 0) (rule .right)
+    right = side-stands (bookAt bytes b .arities) (limits .arity) (limits .right rule member) (there .right i other h)
+
+-- A base before rule i that ends at V.
+abbrev pub BaseAt : PlacedBook → (base i : ℕ) → Type 0
+BaseAt b base i = (bytes : List ℕ) → ReadFrom bytes b → baseBehind base (drop i (bookAt bytes b .rules)) ≡ «V» (bookAt bytes b)
+
+pub base-starts : (b : PlacedBook) (base : ℕ) → base ≡ firstBase (b .symbols) (rankBits (b .symbols)) → BaseAt b base 0
+unfolding «V»
+base-starts b base e bytes read =
+    ap (λ (x : ℕ). baseBehind x (bookAt bytes b .rules)) (e ∙ ap (λ (n : ℕ). firstBase n (rankBits n)) (sym (read-symbols read)))
+
+pub base-small : {b : PlacedBook} (base i : ℕ) → WasRead b → BaseAt b base i → base ≤ 7424
+base-small {b} base i was known =
+    omega (
+      arith,
+      known (was .bytes) (was .read),
+      base-grows base (drop i (bookAt (was .bytes) b .rules)),
+      variables-at-most (bookAt (was .bytes) b) (read-limits (was .read)),
+    )
+
+-- The rule's own base, and the base behind it.
+pub base-behind : {bytes : List ℕ} {b : PlacedBook} {base i : ℕ} (here : RuleHere bytes b base i) → baseAfter base (here .rule) ≡ base + 2 * (settingAt b base i .height * settingAt b base i .width)
+unfolding baseAfter
+base-behind {base = base} here = ap (λ (x : ℕ). base + 2 * x) (ap₂ _*_ (here .stands .left .nodes) (here .stands .right .nodes))
+
+pub base-goes-on :
+    {b : PlacedBook} (base i : ℕ) → base ≤ 7424 → BaseAt b base i → i < b .rules → (base′ : ℕ) →
+    base′ ≡ base + 2 * (settingAt b base i .height * settingAt b base i .width) → BaseAt b base′ (i + 1)
+unfolding baseBehind
+base-goes-on {b} base i small known h base′ e bytes read =
+    let here = rule-here read base i small h in
+    ap (λ (x : ℕ). baseBehind x (drop (i + 1) (bookAt bytes b .rules))) (e ∙ sym (base-behind here))
+    ∙ ap (baseBehind base) (sym (here .next))
+    ∙ known bytes read
+
+pub base-ends : {b : PlacedBook} (base i : ℕ) → BaseAt b base i → b .rules ≤ i → (bytes : List ℕ) → ReadFrom bytes b → base ≡ «V» (bookAt bytes b)
+unfolding baseBehind
+base-ends {b} base i known h bytes read =
+    ap (baseBehind base) (sym (drop-of-length-le (bookAt bytes b .rules) {i = i} (omega (arith, read-there read .ruleCount)))) ∙ known bytes read
+
+-- A rule has at most 100 pairs of nodes.
+pub nodes-few :
+    {b : PlacedBook} → WasRead b → (base i : ℕ) → base ≤ 7424 → i < b .rules → settingAt b base i .height * settingAt b base i .width ≤ 10 * 10
+nodes-few {b} was base i small h =
+    let here = rule-here (was .read) base i small h in
+    product (settingAt b base i .height) (settingAt b base i .width) 10 10 (here .stands .left .small) (here .stands .right .small)
