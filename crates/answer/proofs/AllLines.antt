@@ -2,21 +2,20 @@
 -- Assumes nothing.
 use Prim.Native.Nat.{ℕ, _+_, _-_, _≤_, _<_}
 use mathlib.Core.List.{List, [], _∷_}
-use mathlib.Core.Path.{_≡_, refl, sym, ap, ap₂, subst, _∙_}
+use mathlib.Core.Path.{_≡_, refl, sym, ap, _∙_}
 use native.Mathlib.Omega.{arith}
 use lib.Dec.{eqb}
 use lib.ListN.{length, take, drop, length-drop, drop-of-length-le}
 use lib.Seq.{length-take-le}
 use Rattle.reply.specs.Reply.{Refusal, Reply, given, refused, _>>=_, _at_}
 use Rattle.reply.specs.Text.{pieces, newline}
-use Rattle.clauses.specs.Cnf.{Literal}
 use Rattle.answer.specs.Values.{Values, unclosed, closed}
 use Rattle.answer.specs.Lines.{Said, nothing, satisfied, noModel, lineOf, lineAfter, linesAfter, whole, readAnswer}
 use Rattle.answer.specs.Places.{upTo}
 use Rattle.answer.specs.Table.{tableOf, HoldsSaid, Tells}
 use Rattle.answer.specs.Told.{noValues, tabled}
 use Rattle.answer.specs.declared.values.Stage.{Stage}
-use Rattle.answer.specs.declared.values.Stage.the-variants.{Silent, Open, Closed, NoModel, Faulty}
+use Rattle.answer.specs.declared.values.Stage.the-variants.{Silent, Closed, NoModel, Faulty}
 use Rattle.answer.specs.declared.lines.Verdict.the-variants as Verdicts
 use Rattle.answer.proofs.Places.{next-within, piece-at}
 

@@ -1,15 +1,14 @@
 -- What a line is, by its first bytes. Assumes nothing.
 use Prim.Native.Nat.{ℕ, suc, _-_}
-use mathlib.Core.Bool.{Bool, true, false, _||_, _&&_}
+use mathlib.Core.Bool.{true, false}
 use mathlib.Core.List.{List, [], _∷_}
 use mathlib.Core.Path.{_≡_, refl, sym, ap, _∙_}
 use native.Mathlib.Omega.{arith}
-use lib.Dec.{eqb}
 use lib.ListN.{length, getD, take, drop}
 use lib.Seq.{take-all}
 use borrow.Author.Tests.{ne-eqb}
 use Rattle.reply.specs.Text.{ascii, sameText, space, words}
-use Rattle.answer.specs.Lines.{Line, comment, verdict, noLine, itemLine, valueLine, verdictLine, lineOf}
+use Rattle.answer.specs.Lines.{comment, verdict, noLine, itemLine, valueLine, verdictLine, lineOf}
 
 -- "`s SATISFIABLE`, `s UNSATISFIABLE` or `s UNKNOWN`"
 module _ (line : List ℕ) where

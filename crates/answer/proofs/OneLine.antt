@@ -1,38 +1,17 @@
 -- One more line of an answer, by the stage and the table that tell the lines so far. Assumes nothing.
-use Prim.Native.Nat.{ℕ, suc, _-_}
-use mathlib.Core.Bool.{Bool, true, false, _||_, _&&_}
+use Prim.Native.Nat.{ℕ}
+use mathlib.Core.Bool.{Bool, true, false, _||_}
 use mathlib.Core.List.{List, [], _∷_}
-use mathlib.Core.Path.{_≡_, refl, sym, ap, subst, _∙_}
+use mathlib.Core.Path.{_≡_, refl}
 use native.Mathlib.Omega.{arith}
-use lib.Dec.{eqb}
-use lib.ListN.{length, getD, take, drop}
-use lib.Seq.{take-all}
-use borrow.Author.Tests.{ne-eqb}
-use Rattle.reply.specs.Reply.{Refusal, Reply, given, refused, _>>=_}
+use Rattle.reply.specs.Reply.{Refusal, refused, _>>=_}
 use Rattle.reply.specs.Text.{ascii, sameText, space, words}
 use Rattle.clauses.specs.Cnf.{Literal}
-use Rattle.answer.specs.Values.{Values, unclosed, closed, itemAfter, itemsAfter}
-use Rattle.answer.specs.Lines.{
-  Line,
-  comment,
-  verdict,
-  values,
-  noLine,
-  Said,
-  nothing,
-  satisfied,
-  noModel,
-  itemLine,
-  valueLine,
-  verdictLine,
-  lineOf,
-  verdictAfter,
-  valuesAfter,
-  lineAfter,
-}
-use Rattle.answer.specs.Table.{tableOf, HoldsValues, HoldsSaid, Tells}
+use Rattle.answer.specs.Values.{unclosed, closed, itemAfter, itemsAfter}
+use Rattle.answer.specs.Lines.{Line, verdict, noLine, Said, nothing, satisfied, noModel, itemLine, valueLine, verdictLine, lineOf, verdictAfter, valuesAfter, lineAfter}
+use Rattle.answer.specs.Table.{tableOf, HoldsSaid, Tells}
 use Rattle.answer.specs.declared.values.Stage.{Stage}
-use Rattle.answer.specs.declared.values.Stage.the-variants.{Silent, Open, Closed, NoModel, Faulty}
+use Rattle.answer.specs.declared.values.Stage.the-variants.{Silent, Open, Faulty}
 
 -- What was said, by the stage.
 module _ (stage : Stage) (table : List ℕ) where

@@ -9,7 +9,7 @@ use Rattle.clauses.specs.Item.{Item, item}
 use Rattle.answer.specs.Values.{Values, unclosed, closed, itemAfter}
 use Rattle.answer.specs.Table.{tableOf, HoldsValues, Tells, wordAfter}
 use Rattle.answer.specs.declared.values.Stage.{Stage}
-use Rattle.answer.specs.declared.values.Stage.the-variants.{Open, Closed, Faulty}
+use Rattle.answer.specs.declared.values.Stage.the-variants.{Open, Faulty}
 
 module _ (fault : Refusal) (variables rankVariables : ℕ) (word : List ℕ) (stage : Stage) (table : List ℕ) where
   pub word-refused :

@@ -1,13 +1,12 @@
 -- A rank as a sum over bits, bit by bit, and a table of ranks, symbol by symbol. Assumes nothing.
 use Prim.Native.Nat.{ℕ, zero, suc, _+_, _-_, _*_, _^_, _≤_, _<_}
-use mathlib.Core.Bool.{Bool, true, false}
 use mathlib.Core.List.{List, [], _∷_, _++_, map, append-assoc}
 use mathlib.Core.Path.{_≡_, refl, sym, ap, ap₂, _∙_}
 use native.Mathlib.Numerals.{add-one}
 use native.Mathlib.Nat.{pow-suc, suc-mul, mul-le-mul-right}
 use native.Mathlib.Omega.{arith}
 use lib.Dec.{eqb}
-use lib.ListN.{length, getD, set, replicate, length-map}
+use lib.ListN.{getD, set, replicate}
 use lib.Seq.{set-at}
 use borrow.Author.Tests.{eq-eqb, ne-eqb}
 use Rattle.order.specs.RankTable.{SameRanks}

@@ -1,30 +1,28 @@
 -- An answer in the solvers' usual form is read to literals that give every rank variable the value that it has: its first line is the
 -- verdict, its second has a word for each literal, and no variable is named twice. Assumes nothing.
 use Prim.Native.Nat.{ℕ, zero, suc, _+_, _*_, _≤_, _<_}
-use mathlib.Core.Bool.{Bool, true, false, not, _||_}
-use mathlib.Core.List.{List, [], _∷_, _++_, map, flatMap, append-assoc, append-nil}
-use mathlib.Core.Path.{_≡_, refl, sym, ap, ap₂, subst, _∙_}
+use mathlib.Core.Bool.{Bool, true, false, _||_}
+use mathlib.Core.List.{List, [], _∷_, _++_, map, flatMap, append-assoc}
+use mathlib.Core.Path.{_≡_, refl, sym, ap, subst, _∙_}
 use native.Mathlib.Decide.{decLe, ℕ-discrete}
 use native.Mathlib.Omega.{arith}
-use lib.Dec.{leb, eqb}
 use lib.ListN.{length, length-append}
-use borrow.Author.Tests.{le-leb, lt-leb, eq-eqb, ne-eqb}
-use Rattle.reply.specs.Reply.{Refusal, Reply, given, refused, unless, _>>_, _>>=_, _at_}
+use borrow.Author.Tests.{eq-eqb, ne-eqb}
+use Rattle.reply.specs.Reply.{Refusal, Reply, given, _>>=_, _at_}
 use Rattle.reply.specs.Decimal.{decimal}
 use Rattle.reply.specs.Text.{ascii, sameText, pieces, newline, space, words}
 use Rattle.reply.proofs.Decimal.{decimal-length}
 use Rattle.reply.proofs.Every.{Every, every-append, every-implied}
 use Rattle.reply.proofs.Words.{piece-first, words-first}
 use Rattle.clauses.specs.Cnf.{Literal, is, isNot, Assignment}
-use Rattle.clauses.specs.Item.{item, closing, literal}
+use Rattle.clauses.specs.Item.{item, literal}
 use Rattle.clauses.specs.File.{literalBytes, clauseBytes}
 use Rattle.clauses.specs.Dimacs.{blank}
 use Rattle.clauses.specs.Numbering.{numbers}
-use Rattle.clauses.specs.Computing as Clauses
 use Rattle.clauses.proofs.Dimacs.{literal-bytes}
 use Rattle.clauses.proofs.Items.{Within, literalWord, item-literal, word-nonempty, word-no-blank}
-use Rattle.answer.specs.Values.{Values, unclosed, closed, variableOf, names, named, itemAfter, itemsAfter}
-use Rattle.answer.specs.Lines.{Said, nothing, satisfied, verdict, values, itemLine, valueLine, lineOf, verdictAfter, valuesAfter, lineAfter, linesAfter, whole, readAnswer}
+use Rattle.answer.specs.Values.{unclosed, closed, variableOf, names, named, itemAfter, itemsAfter}
+use Rattle.answer.specs.Lines.{Said, nothing, satisfied, values, itemLine, valueLine, lineOf, valuesAfter, lineAfter, linesAfter, whole, readAnswer}
 use Rattle.answer.specs.Ranks.{valued}
 use Rattle.answer.specs.Usual.{trueLiteral, usualAnswer}
 use Rattle.answer.specs.Computing.{computing}

@@ -5,7 +5,7 @@ use mathlib.Core.List.{List, []}
 use mathlib.Core.Path.{_≡_}
 use lib.Dec.{eqb}
 use lib.ListN.{getD}
-use Rattle.reply.specs.Reply.{Refusal, Reply, given, refused, _at_}
+use Rattle.reply.specs.Reply.{Reply, given, refused, _at_}
 use Rattle.clauses.specs.Cnf.{Literal, Assignment}
 use Rattle.answer.specs.Ranks.{valued}
 use Rattle.answer.specs.Table.{tableOf}

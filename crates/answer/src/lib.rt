@@ -12,13 +12,12 @@ use lines::read_values;
 use order::Decrease;
 use ranks::ranks_of;
 ghost use mathlib.Core.Path.{_≡_};
-ghost use Prim.Native.Nat.{_≤_};
 ghost use lib.ListN.{length};
 ghost use Rattle.reply.specs.Lent.{laid};
 ghost use Rattle.book.specs.Meaning.{bookAt};
 ghost use Rattle.order.specs.Standing.{BookStands};
 ghost use Rattle.clauses.specs.Blocks.{«V»};
-ghost use Rattle.answer.specs.Ranks.{answered};
+ghost use Rattle.answer.specs.Ranks.{answered, ranksFromAnswer};
 ghost use Rattle.answer.specs.Told.{assigned};
 ghost use Rattle.answer.specs.Answered.{answeredMeaning, counted, ranksChecked, acceptedAs, ranksIn};
 
@@ -90,4 +89,19 @@ fn answer_to(bytes: &[u8], book: Book, variables: usize, text: &[u8], out: &mut 
             checked_ranks(bytes, book, table, out)
         }
     }
+}
+
+// Ranks from a solver's answer: the book's refusals 1 to 6, then 12, 13, 14, 9, 8; accepted ranks stand in the first n bytes of the lent
+// buffer, and its other bytes keep their values.
+pub fn ranks_from_answer(book: &[u8], text: &[u8], out: &mut [u8]) -> Answered
+    ensures means { λ r. ⌜ answeredMeaning r ≡ counted (ranksFromAnswer (now (book .entry)) (now (text .entry)) (length (now (out .entry)))) ⌝ }
+    ensures lays { λ _. ⌜ now (out .exit) ≡ laid (ranksFromAnswer (now (book .entry)) (now (text .entry)) (length (now (out .entry)))) (now (out .entry)) ⌝ }
+{
+    let read = book::read_book(book);
+    let verdict = read.verdict;
+    let BookVerdict::Readable = verdict else {
+        return Answered::Unreadable(verdict);
+    };
+    let places = read.book;
+    answer_to(book, places, clauses::blocks::variables(places), text, out)
 }

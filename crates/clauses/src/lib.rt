@@ -1,5 +1,5 @@
 // The clause file of a book: its blocks, laid into lent buffers. The definitions stand in specs/.
-mod blocks;
+pub mod blocks;
 mod nodes;
 mod pairs;
 mod parts;

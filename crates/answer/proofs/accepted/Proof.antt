@@ -4,22 +4,16 @@ use borrow.Author.Needs.{needs}
 use Rattle.answer.specs.Answered.{acceptedAs}
 use Rattle.answer.proofs.accepted.Statement.{statement}
 use Rattle.answer.proofs.accepted.Tie as tie
-use Rattle.answer.proofs.accepted.Reads as reads
-use Rattle.answer.proofs.accepted.Lts as lts
 
--- src/lib.rt:41:33
 enum-told : tie.Need-enum-told
 enum-told c = search needs
 
--- src/lib.rt:42:25
 enum-known-found : tie.Need-enum-known-found
 enum-known-found c = search needs
 
--- src/lib.rt:37:1
 returns : tie.Need-returns
 returns c = ap (acceptedAs _) (sym (c .enum-told .given .1))
 
--- src/lib.rt:37:1
 returns-2 : tie.Need-returns-2
 returns-2 c = ap (acceptedAs _) (sym (c .before .found .given .1))
 

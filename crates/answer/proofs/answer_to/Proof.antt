@@ -5,61 +5,44 @@ use Rattle.answer.proofs.Afterwards.{bits-room, too-long, malformed, no
 use borrow.Author.Needs.{needs}
 use Rattle.answer.proofs.answer_to.Statement.{statement}
 use Rattle.answer.proofs.answer_to.Tie as tie
-use Rattle.answer.proofs.answer_to.Reads as reads
-use Rattle.answer.proofs.answer_to.Lts as lts
-use Rattle.answer.proofs.checked_ranks.Reads as checked-ranks-reads
-use Rattle.answer.proofs.lines.read_values.Reads as read-values-reads
-use Rattle.term.proofs.rank_bits.Reads as rank-bits-reads
 
--- src/lib.rt:70:9
 returns : tie.Need-returns
 returns c = too-long _ _ _ (c .if1 .taken)
 
--- src/lib.rt:73:55
 rank-bits-requires : tie.Need-rank-bits-requires
 rank-bits-requires c κs = search needs
 
--- src/lib.rt:73:45
 mul-read-values : tie.Need-mul-read-values
 mul-read-values c = omega (arith, bits-room _ _ (c .rank-bits .ensures) (c .before .before .before .before .before .pre .0 .fewSymbols) .2)
 
--- src/lib.rt:73:9
 read-values-requires : tie.Need-read-values-requires
 read-values-requires c κs = bits-room _ _ (c .rank-bits .ensures) (c .before .before .before .before .before .pre .0 .fewSymbols) .2
 
--- src/lib.rt:76:28
 enum-known-verdict : tie.Need-enum-known-verdict
 enum-known-verdict c = search needs
 
--- src/lib.rt:77:29
 enum-told : tie.Need-enum-told
 enum-told c = search needs
 
--- src/lib.rt:79:17
 enum-told-2 : tie.Need-enum-told-2
 enum-told-2 c = search needs
 
--- src/lib.rt:80:13
 checked-ranks-requires : tie.Need-checked-ranks-requires
 checked-ranks-requires c κs = search needs
 
--- src/lib.rt:59:1
 returns-2 : tie.Need-returns-2
 returns-2 c =
     malformed _ _ _ (c .before .before .before .before .before .if1 .left) _ _ _ (c .before .before .before .before .before .before .before .before .before .pre .0 .symbolCount) (c .before .before .before .before .rank-bits .ensures)
     (c .before .before .before .before .before .before .before .before .before .pre .1) _ (c .before .before .before .read-values .ensures) _ (c .before .verdict .given .1)
 
--- src/lib.rt:59:1
 returns-3 : tie.Need-returns-3
 returns-3 c =
     no-model _ _ _ (c .before .before .before .before .if1 .left) _ _ _ (c .before .before .before .before .before .before .before .before .pre .0 .symbolCount) (c .before .before .before .rank-bits .ensures)
     (c .before .before .before .before .before .before .before .before .pre .1) _ (c .before .before .read-values .ensures) (c .enum-told .given .1)
 
--- src/lib.rt:59:1
 same-length : tie.Need-same-length
 same-length c = search needs
 
--- src/lib.rt:59:1
 returns-4 : tie.Need-returns-4
 returns-4 c =
     values-checked _ _ (c .before .before .before .before .before .before .before .before .before .before .before .before .before .args .out .now) (c .before .before .before .before .before .before .before .before .before .if1 .left) _ _ _ (c .before .before .before .before .before .before .before .before .before .before .before .before .before .pre .0 .symbolCount) (c .before .before .before .before .before .before .before .before .rank-bits .ensures)

@@ -11,8 +11,6 @@ use Rattle.answer.specs.declared.Answered.the-variants.{Accepted, Unread
 use Rattle.answer.proofs.Answered.{the-type}
 use Rattle.answer.proofs.ranks_in.Statement.{statement}
 use Rattle.answer.proofs.ranks_in.Tie as tie
-use Rattle.answer.proofs.ranks_in.Reads as reads
-use Rattle.answer.proofs.ranks_in.Lts as lts
 
 none-accepted : (a : Answered) → OneOf (1 ∷ 2 ∷ 3 ∷ 4 ∷ 5 ∷ 6 ∷ []) (tagOf the-type a) → _≡_ {A = ℕ} 0 (ranksIn a)
 none-accepted (Accepted n) h = absurd (miss (1 ∷ 2 ∷ 3 ∷ 4 ∷ 5 ∷ 6 ∷ []) 0 tt h)
@@ -23,15 +21,12 @@ none-accepted NoModel h = refl
 none-accepted ShortBuffer h = refl
 none-accepted (NotDecreasing rule) h = refl
 
--- src/lib.rt:51:28
 enum-known-answer : tie.Need-enum-known-answer
 enum-known-answer c = search needs
 
--- src/lib.rt:47:1
 returns : tie.Need-returns
 returns c = search needs
 
--- src/lib.rt:47:1
 returns-2 : tie.Need-returns-2
 returns-2 c = none-accepted (c .before .args .answer) (c .match .keys2)
 

@@ -4,49 +4,36 @@ use borrow.Author.Needs.{needs}
 use Rattle.answer.proofs.Numbers.{comes-to-none-low, comes-to-none-high, comes-to-more, comes-to}
 use Rattle.answer.proofs.items.grown.Statement.{statement}
 use Rattle.answer.proofs.items.grown.Tie as tie
-use Rattle.answer.proofs.items.grown.Reads as reads
-use Rattle.answer.proofs.items.grown.Lts as lts
-use Rattle.answer.proofs.items.wide.Reads as wide-reads
 
--- src/items.rt:27:9
 returns : tie.Need-returns
 returns c = comes-to-none-low _ _ _ (c .if1 .taken)
 
--- src/items.rt:30:9
 returns-2 : tie.Need-returns-2
 returns-2 c = comes-to-none-high _ _ _ (c .if2 .taken)
 
--- src/items.rt:32:9
 wide-requires : tie.Need-wide-requires
 wide-requires c κs = search needs
 
--- src/items.rt:34:9
 returns-3 : tie.Need-returns-3
 returns-3 c =
     comes-to-more _ _ _ _ (c .before .before .before .if1 .left) (c .before .before .if2 .left) (c .before .wide .ensures) (omega arith)
 
--- src/items.rt:36:14
 mul-if4 : tie.Need-mul-if4
 mul-if4 c = search needs
 
--- src/items.rt:36:8
 sub-if4 : tie.Need-sub-if4
 sub-if4 c = search needs
 
--- src/items.rt:37:9
 returns-4 : tie.Need-returns-4
 returns-4 c =
     comes-to-more _ _ _ _ (c .before .before .before .before .if1 .left) (c .before .before .before .if2 .left) (c .before .before .wide .ensures) (omega arith)
 
--- src/items.rt:39:5
 mul-result : tie.Need-mul-result
 mul-result c = search needs
 
--- src/items.rt:39:5
 add-result : tie.Need-add-result
 add-result c = search needs
 
--- src/items.rt:23:1
 returns-5 : tie.Need-returns-5
 returns-5 c =
     comes-to _ _ _ _ (c .before .before .before .before .if1 .left) (c .before .before .before .if2 .left) (c .before .before .wide .ensures) (omega arith)

@@ -10,9 +10,6 @@ use Rattle.answer.specs.Items.{within}
 use Rattle.answer.proofs.Numbers.{behind, ended-at, stopped-at, gone-on-at}
 use Rattle.answer.proofs.items.number_within.Statement.{statement}
 use Rattle.answer.proofs.items.number_within.Tie as tie
-use Rattle.answer.proofs.items.number_within.Reads as reads
-use Rattle.answer.proofs.items.number_within.Lts as lts
-use Rattle.answer.proofs.items.grown.Reads as grown-reads
 
 abbrev Inv-loop : tie.InvT-loop
 Inv-loop text top value₀ i₀ value i = (value ≤ top) × (behind top value (drop i text) ≡ within top (number text))

@@ -5,68 +5,50 @@ use Rattle.clauses.specs.Cnf.{is, isNot}
 use Rattle.answer.proofs.OneItem.{closing-word, empty-word, minus, plain, nothing-read, literal-read}
 use Rattle.answer.proofs.items.read_item.Statement.{statement}
 use Rattle.answer.proofs.items.read_item.Tie as tie
-use Rattle.answer.proofs.items.read_item.Reads as reads
-use Rattle.answer.proofs.items.read_item.Lts as lts
-use Rattle.answer.proofs.items.number_within.Reads as number-within-reads
-use Rattle.answer.proofs.text.same.Reads as same-reads
 
--- src/items.rt:64:19
 slice-aggregate-same : tie.Need-slice-aggregate-same
 slice-aggregate-same c = search needs
 
--- src/items.rt:64:8
 same-requires : tie.Need-same-requires
 same-requires c κs = search needs
 
--- src/items.rt:65:9
 returns : tie.Need-returns
 returns c = closing-word _ _ (sym (c .before .same .ensures) ∙ c .if1 .taken)
 
--- src/items.rt:68:9
 returns-2 : tie.Need-returns-2
 returns-2 c = empty-word _ _ (c .if2 .taken)
 
--- src/items.rt:70:8
 shared-slice-read-if3 : tie.Need-shared-slice-read-if3
 shared-slice-read-if3 c = search needs
 
--- src/items.rt:71:31
 sub-number-within : tie.Need-sub-number-within
 sub-number-within c = search needs
 
--- src/items.rt:71:31
 part-number-within-start : tie.Need-part-number-within-start
 part-number-within-start c = search needs
 
--- src/items.rt:71:31
 part-number-within-end : tie.Need-part-number-within-end
 part-number-within-end c = search needs
 
--- src/items.rt:71:13
 number-within-requires : tie.Need-number-within-requires
 number-within-requires c κs = search needs
 
--- src/items.rt:72:9
 returns-3 : tie.Need-returns-3
 returns-3 c =
     nothing-read _ isNot _ (minus _ _ (c .before .before .before .before .before .if2 .left) (c .before .before .before .if3 .taken)) (c .before .number-within .ensures) (c .if4 .taken)
 
--- src/items.rt:72:9
 returns-4 : tie.Need-returns-4
 returns-4 c =
     literal-read _ isNot _ (minus _ _ (c .before .before .before .before .before .if2 .left) (c .before .before .before .if3 .taken)) (c .before .number-within .ensures) (c .if4 .left)
 
--- src/items.rt:74:9
 number-within-requires-2 : tie.Need-number-within-requires-2
 number-within-requires-2 c κs = search needs
 
--- src/items.rt:61:1
 returns-5 : tie.Need-returns-5
 returns-5 c =
     nothing-read _ is _ (plain _ _ (sym (c .before .before .before .before .before .before .same .ensures) ∙ c .before .before .before .before .before .if1 .left) (c .before .before .before .before .if2 .left) (c .before .before .if3 .left))
     (c .before .number-within2 .ensures) (c .if5 .taken)
 
--- src/items.rt:61:1
 returns-6 : tie.Need-returns-6
 returns-6 c =
     literal-read _ is _ (plain _ _ (sym (c .before .before .before .before .before .before .same .ensures) ∙ c .before .before .before .before .before .if1 .left) (c .before .before .before .before .if2 .left) (c .before .before .if3 .left))

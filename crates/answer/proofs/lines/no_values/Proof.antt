@@ -3,10 +3,7 @@ use mathlib.Core.Path.{refl}
 use Rattle.answer.specs.Computing.{computing}
 use Rattle.answer.proofs.lines.no_values.Statement.{statement}
 use Rattle.answer.proofs.lines.no_values.Tie as tie
-use Rattle.answer.proofs.lines.no_values.Reads as reads
-use Rattle.answer.proofs.lines.no_values.Lts as lts
 
--- src/lines.rt:96:1
 returns : tie.Need-returns
 unfolding computing
 returns c = refl

@@ -11,11 +11,6 @@ use Rattle.answer.proofs.Stages.{not-faulty, neither-end}
 use Rattle.answer.proofs.AllLines.{From, at-first, line-on, line-faulty, read-closed, read-no-model, read-missing}
 use Rattle.answer.proofs.lines.read_values.Statement.{statement}
 use Rattle.answer.proofs.lines.read_values.Tie as tie
-use Rattle.answer.proofs.lines.read_values.Reads as reads
-use Rattle.answer.proofs.lines.read_values.Lts as lts
-use Rattle.answer.proofs.lines.line_after.Reads as line-after-reads
-use Rattle.answer.proofs.lines.no_values.Reads as no-values-reads
-use Rattle.answer.proofs.text.next.Reads as next-reads
 
 abbrev Inv-loop : tie.InvT-loop
 Inv-loop text variables rank-variables table₀ stage₀ at₀ table stage at = From text variables rank-variables stage table at
@@ -23,85 +18,66 @@ Inv-loop text variables rank-variables table₀ stage₀ at₀ table stage at = 
 abbrev μ-loop : tie.MeasureT-loop
 μ-loop text variables rank-variables table₀ stage₀ at₀ table stage at = length text - at
 
--- src/lines.rt:101:5
 loop-holds : tie.Need-loop-holds Inv-loop μ-loop
 unfolding computing
 loop-holds c = at-first _ _ _
 
--- src/lines.rt:103:13
 next-requires : tie.Need-next-requires Inv-loop μ-loop
 next-requires c κs = search needs
 
--- src/lines.rt:104:14
 add-at : tie.Need-add-at Inv-loop μ-loop
 add-at c = omega (arith, next-within _ _ _ _ (c .before .loop-test .taken) (c .next .ensures))
 
--- src/lines.rt:105:28
 sub-line-after : tie.Need-sub-line-after Inv-loop μ-loop
 sub-line-after c = omega arith
 
--- src/lines.rt:105:28
 part-line-after-start : tie.Need-part-line-after-start Inv-loop μ-loop
 part-line-after-start c = omega arith
 
--- src/lines.rt:105:28
 part-line-after-end : tie.Need-part-line-after-end Inv-loop μ-loop
 part-line-after-end c = next-within _ _ _ _ (c .before .loop-test .taken) (c .next .ensures)
 
--- src/lines.rt:105:9
 line-after-requires : tie.Need-line-after-requires Inv-loop μ-loop
 line-after-requires c κs = c .before .before .before .before .before .before .pre
 
--- src/lines.rt:107:30
 enum-told : tie.Need-enum-told Inv-loop μ-loop
 enum-told c = search needs
 
--- src/lines.rt:107:13
 no-values-requires : tie.Need-no-values-requires Inv-loop μ-loop
 no-values-requires c κs = search needs
 
--- src/lines.rt:107:13
 returns : tie.Need-returns Inv-loop μ-loop
 returns c =
     c .no-values .ensures
     ∙ line-faulty _ _ _ (c .before .before .before .before .before .before .before .before .loop .inv) _ (c .before .before .before .before .before .before .before .loop-test .taken) (c .before .before .before .before .before .before .next .ensures) _ _
     (c .before .before .before .line-after .ensures _ _ (c .before .before .before .before .before .before .before .before .loop .inv .holds)) (c .before .enum-told .given .1)
 
--- src/lines.rt:101:5
 loop-less : tie.Need-loop-less Inv-loop μ-loop
 loop-less c = omega (arith, c .before .before .before .before .next .ensures)
 
--- src/lines.rt:101:5
 loop-again : tie.Need-loop-again Inv-loop μ-loop
 loop-again c =
     line-on _ _ _ (c .before .before .before .before .before .before .loop .inv) _ (c .before .before .before .before .before .loop-test .taken) (c .before .before .before .before .next .ensures) _ _
     (c .before .line-after .ensures _ _ (c .before .before .before .before .before .before .loop .inv .holds)) (not-faulty _ (c .match .keys2))
 
--- src/lines.rt:112:22
 enum-told-2 : tie.Need-enum-told-2 Inv-loop μ-loop
 enum-told-2 c = search needs
 
--- src/lines.rt:115:37
 enum-told-3 : tie.Need-enum-told-3 Inv-loop μ-loop
 enum-told-3 c = search needs
 
--- src/lines.rt:115:27
 no-values-requires-2 : tie.Need-no-values-requires-2 Inv-loop μ-loop
 no-values-requires-2 c κs = search needs
 
--- src/lines.rt:116:14
 no-values-requires-3 : tie.Need-no-values-requires-3 Inv-loop μ-loop
 no-values-requires-3 c κs = search needs
 
--- src/lines.rt:95:1
 returns-2 : tie.Need-returns-2 Inv-loop μ-loop
 returns-2 c = read-closed _ _ _ (c .before .before .before .loop .inv) (c .before .before .loop-test .left) (c .enum-told2 .given .1)
 
--- src/lines.rt:95:1
 returns-3 : tie.Need-returns-3 Inv-loop μ-loop
 returns-3 c = c .no-values2 .ensures ∙ read-no-model _ _ _ (c .before .before .before .before .loop .inv) (c .before .before .before .loop-test .left) (c .before .enum-told3 .given .1)
 
--- src/lines.rt:95:1
 returns-4 : tie.Need-returns-4 Inv-loop μ-loop
 returns-4 c =
     let (c₁, c₂) = neither-end _ (c .before .match2 .keys3) in

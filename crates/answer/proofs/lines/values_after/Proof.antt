@@ -8,52 +8,40 @@ use Rattle.answer.proofs.OneLine.{values-late, values-open}
 use Rattle.answer.proofs.LineKinds.{values-empty, values-no-space, values-items}
 use Rattle.answer.proofs.lines.values_after.Statement.{statement}
 use Rattle.answer.proofs.lines.values_after.Tie as tie
-use Rattle.answer.proofs.lines.values_after.Reads as reads
-use Rattle.answer.proofs.lines.values_after.Lts as lts
-use Rattle.answer.proofs.values.items_after.Reads as items-after-reads
 
 enum-told : tie.Need-enum-told
 enum-told c = search needs
 
--- src/lines.rt:55:9
 returns : tie.Need-returns
 returns c = λ fault said h. values-late fault _ _ _ _ _ said h (not-open _ (c .match .keys2))
 
--- src/lines.rt:58:9
 returns-2 : tie.Need-returns-2
 unfolding lineAfter
 returns-2 c =
     λ fault said h. values-open fault _ _ _ _ _ said h (c .before .enum-told .given .1) (values-empty _ (c .if1 .taken)) _ _
     (λ ls t. (refl, refl))
 
--- src/lines.rt:60:8
 shared-slice-read-if2 : tie.Need-shared-slice-read-if2
 shared-slice-read-if2 c = search needs
 
--- src/lines.rt:61:9
 returns-3 : tie.Need-returns-3
 unfolding lineAfter
 returns-3 c =
     λ fault said h. values-open fault _ _ _ _ _ said h (c .before .before .before .enum-told .given .1) (values-no-space _ (c .if2 .taken)) _ _
     (λ ls t. (refl, refl))
 
--- src/lines.rt:63:17
 sub-items-after : tie.Need-sub-items-after
 sub-items-after c = search needs
 
--- src/lines.rt:63:17
 part-items-after-start : tie.Need-part-items-after-start
 part-items-after-start c = search needs
 
--- src/lines.rt:63:17
 part-items-after-end : tie.Need-part-items-after-end
 part-items-after-end c = search needs
 
--- src/lines.rt:63:5
 items-after-requires : tie.Need-items-after-requires
 items-after-requires c κs = search needs
 
--- src/lines.rt:47:1
 returns-4 : tie.Need-returns-4
 returns-4 c =
     λ fault said h. values-open fault _ _ _ _ _ said h (c .before .before .before .before .before .before .enum-told .given .1) (values-items _ (c .before .before .before .before .before .if1 .left) (c .before .before .before .if2 .left)) _ _

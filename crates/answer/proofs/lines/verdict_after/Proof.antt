@@ -9,63 +9,49 @@ use Rattle.answer.proofs.OneLine.{verdict-late, verdict-first}
 use Rattle.answer.proofs.LineKinds.{says-satisfiable, says-unsatisfiable, says-unknown, says-nothing}
 use Rattle.answer.proofs.lines.verdict_after.Statement.{statement}
 use Rattle.answer.proofs.lines.verdict_after.Tie as tie
-use Rattle.answer.proofs.lines.verdict_after.Reads as reads
-use Rattle.answer.proofs.lines.verdict_after.Lts as lts
-use Rattle.answer.proofs.text.same.Reads as same-reads
 
 enum-told : tie.Need-enum-told
 enum-told c = search needs
 
--- src/lines.rt:32:9
 returns : tie.Need-returns
 returns c = λ fault variables rankVariables said table h. verdict-late fault _ _ _ _ _ said h (not-silent _ (c .match .keys2))
 
--- src/lines.rt:34:19
 slice-aggregate-same : tie.Need-slice-aggregate-same
 slice-aggregate-same c = search needs
 
--- src/lines.rt:34:8
 same-requires : tie.Need-same-requires
 same-requires c κs = search needs
 
--- src/lines.rt:35:9
 returns-2 : tie.Need-returns-2
 unfolding ascii lineAfter verdictAfter
 returns-2 c =
     λ fault variables rankVariables said table h. verdict-first fault _ _ _ _ table said h (c .before .before .before .enum-told .given .1)
     (says-satisfiable _ (sym (c .before .same .ensures) ∙ c .if1 .taken)) _ (λ t. (refl, t))
 
--- src/lines.rt:37:19
 slice-aggregate-same-2 : tie.Need-slice-aggregate-same-2
 slice-aggregate-same-2 c = search needs
 
--- src/lines.rt:37:8
 same-requires-2 : tie.Need-same-requires-2
 same-requires-2 c κs = search needs
 
--- src/lines.rt:38:9
 returns-3 : tie.Need-returns-3
 unfolding ascii lineAfter verdictAfter
 returns-3 c =
     λ fault variables rankVariables said table h. verdict-first fault _ _ _ _ table said h (c .before .before .before .before .before .before .enum-told .given .1)
     (says-unsatisfiable _ (sym (c .before .before .before .before .same .ensures) ∙ c .before .before .before .if1 .left) (sym (c .before .same2 .ensures) ∙ c .if2 .taken)) _ (λ t. (refl, t))
 
--- src/lines.rt:40:19
 slice-aggregate-same-3 : tie.Need-slice-aggregate-same-3
 slice-aggregate-same-3 c = search needs
 
--- src/lines.rt:40:8
 same-requires-3 : tie.Need-same-requires-3
 same-requires-3 c κs = search needs
 
--- src/lines.rt:41:9
 returns-4 : tie.Need-returns-4
 unfolding ascii lineAfter verdictAfter
 returns-4 c =
     λ fault variables rankVariables said table h. verdict-first fault _ _ _ _ table said h (c .before .before .before .before .before .before .before .before .before .enum-told .given .1)
     (says-unknown _ (sym (c .before .before .before .before .before .before .before .same .ensures) ∙ c .before .before .before .before .before .before .if1 .left) (sym (c .before .before .before .before .same2 .ensures) ∙ c .before .before .before .if2 .left) (sym (c .before .same3 .ensures) ∙ c .if3 .taken)) _ (λ t. (refl, t))
 
--- src/lines.rt:25:1
 returns-5 : tie.Need-returns-5
 unfolding ascii lineAfter verdictAfter
 returns-5 c =

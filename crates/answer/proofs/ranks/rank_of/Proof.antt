@@ -4,8 +4,6 @@ use native.Mathlib.Omega.{arith}
 use Rattle.answer.proofs.RankSums.{Summed, no-bits, small, all-bits, bit-set, bit-clear}
 use Rattle.answer.proofs.ranks.rank_of.Statement.{statement}
 use Rattle.answer.proofs.ranks.rank_of.Tie as tie
-use Rattle.answer.proofs.ranks.rank_of.Reads as reads
-use Rattle.answer.proofs.ranks.rank_of.Lts as lts
 
 abbrev Inv-loop : tie.InvT-loop
 Inv-loop table bits f rank₀ weight₀ b₀ rank weight b = Summed bits f table rank weight b
@@ -13,55 +11,42 @@ Inv-loop table bits f rank₀ weight₀ b₀ rank weight b = Summed bits f table
 abbrev μ-loop : tie.MeasureT-loop
 μ-loop table bits f rank₀ weight₀ b₀ rank weight b = bits - b
 
--- src/ranks.rt:16:5
 loop-holds : tie.Need-loop-holds Inv-loop μ-loop
 loop-holds c = no-bits _ _ _
 
--- src/ranks.rt:17:21
 mul-place : tie.Need-mul-place Inv-loop μ-loop
 mul-place c = omega arith
 
--- src/ranks.rt:17:21
 add-place : tie.Need-add-place Inv-loop μ-loop
 add-place c = omega arith
 
--- src/ranks.rt:19:18
 mul-weight : tie.Need-mul-weight Inv-loop μ-loop
 mul-weight c = omega (arith, small _ _ _ (c .before .loop .inv) (c .before .before .pre .0))
 
--- src/ranks.rt:20:9
 add-b : tie.Need-add-b Inv-loop μ-loop
 add-b c = omega arith
 
--- src/ranks.rt:21:12
 element-copy-out-if1 : tie.Need-element-copy-out-if1 Inv-loop μ-loop
 element-copy-out-if1 c = omega arith
 
--- src/ranks.rt:22:13
 add-rank : tie.Need-add-rank Inv-loop μ-loop
 add-rank c = omega (arith, small _ _ _ (c .before .before .before .loop .inv) (c .before .before .before .before .pre .0))
 
--- src/ranks.rt:16:5
 loop-less : tie.Need-loop-less Inv-loop μ-loop
 loop-less c = omega arith
 
--- src/ranks.rt:16:5
 loop-again : tie.Need-loop-again Inv-loop μ-loop
 loop-again c = bit-set _ _ _ (c .before .before .before .loop .inv) (c .before .before .loop-test .taken) (c .if1 .taken)
 
--- src/ranks.rt:16:5
 loop-less-2 : tie.Need-loop-less-2 Inv-loop μ-loop
 loop-less-2 c = omega arith
 
--- src/ranks.rt:16:5
 loop-again-2 : tie.Need-loop-again-2 Inv-loop μ-loop
 loop-again-2 c = bit-clear _ _ _ (c .before .before .before .loop .inv) (c .before .before .loop-test .taken) (c .if1 .left)
 
--- src/ranks.rt:25:5
 cast-result : tie.Need-cast-result Inv-loop μ-loop
 cast-result c = omega (arith, small _ _ _ (c .before .loop .inv) (c .before .before .pre .0))
 
--- src/ranks.rt:9:1
 returns : tie.Need-returns Inv-loop μ-loop
 returns c = all-bits _ _ _ (c .before .loop .inv) (c .loop-test .left)
 

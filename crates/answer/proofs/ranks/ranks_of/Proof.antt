@@ -7,9 +7,6 @@ use Rattle.answer.specs.RankTable.{rankTable}
 use Rattle.answer.proofs.RankSums.{no-ranks, next-rank, all-ranks, bits-within}
 use Rattle.answer.proofs.ranks.ranks_of.Statement.{statement}
 use Rattle.answer.proofs.ranks.ranks_of.Tie as tie
-use Rattle.answer.proofs.ranks.ranks_of.Reads as reads
-use Rattle.answer.proofs.ranks.ranks_of.Lts as lts
-use Rattle.answer.proofs.ranks.rank_of.Reads as rank-of-reads
 
 abbrev Inv-loop : tie.InvT-loop
 Inv-loop table symbols bits ranks₀ f₀ ranks f = (f ≤ symbols) × (ranks ≡ rankTable f bits (assigned table))
@@ -17,31 +14,24 @@ Inv-loop table symbols bits ranks₀ f₀ ranks f = (f ≤ symbols) × (ranks �
 abbrev μ-loop : tie.MeasureT-loop
 μ-loop table symbols bits ranks₀ f₀ ranks f = symbols - f
 
--- src/ranks.rt:35:5
 loop-holds : tie.Need-loop-holds Inv-loop μ-loop
 loop-holds c = (omega arith, no-ranks _ _)
 
--- src/ranks.rt:36:20
 rank-of-requires : tie.Need-rank-of-requires Inv-loop μ-loop
 rank-of-requires c κs = (c .before .before .pre .1, bits-within _ _ _ (c .loop-test .taken) (c .before .before .pre .2))
 
--- src/ranks.rt:36:9
 array-write-ranks : tie.Need-array-write-ranks Inv-loop μ-loop
 array-write-ranks c = omega arith
 
--- src/ranks.rt:37:9
 add-f : tie.Need-add-f Inv-loop μ-loop
 add-f c = omega arith
 
--- src/ranks.rt:35:5
 loop-less : tie.Need-loop-less Inv-loop μ-loop
 loop-less c = omega arith
 
--- src/ranks.rt:35:5
 loop-again : tie.Need-loop-again Inv-loop μ-loop
 loop-again c = (omega arith, rw (c .before .before .loop .inv .1) (next-rank _ _ _ _ (omega arith) (c .rank-of .ensures)))
 
--- src/ranks.rt:29:1
 returns : tie.Need-returns Inv-loop μ-loop
 returns c = all-ranks _ _ _ _ _ (c .before .loop .inv .0) (c .loop-test .left) (c .before .loop .inv .1)
 

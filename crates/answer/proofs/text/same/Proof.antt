@@ -1,5 +1,5 @@
 -- `answer::text::same` meets its contract. What is left of both texts is compared as the whole texts are. Assumes nothing.
-use Prim.Native.Nat.{_-_, _≤_}
+use Prim.Native.Nat.{_-_}
 use mathlib.Core.Path.{_≡_, refl, sym, _∙_}
 use native.Mathlib.Omega.{arith}
 use lib.ListN.{length, drop}
@@ -7,8 +7,6 @@ use Rattle.reply.specs.Text.{sameText}
 use Rattle.answer.proofs.SameText.{longer-or-shorter, both-ended, same-further, differ-here}
 use Rattle.answer.proofs.text.same.Statement.{statement}
 use Rattle.answer.proofs.text.same.Tie as tie
-use Rattle.answer.proofs.text.same.Reads as reads
-use Rattle.answer.proofs.text.same.Lts as lts
 
 abbrev Inv-loop : tie.InvT-loop
 Inv-loop text word i₀ i = sameText (drop i text) (drop i word) ≡ sameText text word

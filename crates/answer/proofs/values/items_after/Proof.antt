@@ -13,10 +13,6 @@ use Rattle.answer.proofs.Places.{next-within}
 use Rattle.answer.proofs.ValueLine.{Behind, at-first, behind-gap, behind-word, line-told, line-empty}
 use Rattle.answer.proofs.values.items_after.Statement.{statement}
 use Rattle.answer.proofs.values.items_after.Tie as tie
-use Rattle.answer.proofs.values.items_after.Reads as reads
-use Rattle.answer.proofs.values.items_after.Lts as lts
-use Rattle.answer.proofs.text.next.Reads as next-reads
-use Rattle.answer.proofs.values.word_after.Reads as word-after-reads
 
 abbrev Inv-loop : tie.InvT-loop
 Inv-loop items variables rank-variables table₀ stage₀ found₀ at₀ table stage found at =
@@ -25,39 +21,30 @@ Inv-loop items variables rank-variables table₀ stage₀ found₀ at₀ table s
 abbrev μ-loop : tie.MeasureT-loop
 μ-loop items variables rank-variables table₀ stage₀ found₀ at₀ table stage found at = length items - at
 
--- src/values.rt:75:5
 loop-holds : tie.Need-loop-holds Inv-loop μ-loop
 loop-holds c = λ fault ls t. at-first fault _ _ _ ls _ t
 
--- src/values.rt:77:13
 next-requires : tie.Need-next-requires Inv-loop μ-loop
 next-requires c κs = search needs
 
--- src/values.rt:78:14
 add-at : tie.Need-add-at Inv-loop μ-loop
 add-at c = omega (arith, next-within _ _ _ _ (c .before .loop-test .taken) (c .next .ensures))
 
--- src/values.rt:80:32
 sub-word-after : tie.Need-sub-word-after Inv-loop μ-loop
 sub-word-after c = omega arith
 
--- src/values.rt:80:32
 part-word-after-start : tie.Need-part-word-after-start Inv-loop μ-loop
 part-word-after-start c = omega arith
 
--- src/values.rt:80:32
 part-word-after-end : tie.Need-part-word-after-end Inv-loop μ-loop
 part-word-after-end c = next-within _ _ _ _ (c .before .before .loop-test .taken) (c .before .next .ensures)
 
--- src/values.rt:80:13
 word-after-requires : tie.Need-word-after-requires Inv-loop μ-loop
 word-after-requires c κs = c .before .before .before .before .before .before .before .pre
 
--- src/values.rt:75:5
 loop-less : tie.Need-loop-less Inv-loop μ-loop
 loop-less c = omega (arith, c .before .before .before .before .next .ensures)
 
--- src/values.rt:75:5
 loop-again : tie.Need-loop-again Inv-loop μ-loop
 loop-again c =
     λ fault ls t.
@@ -65,20 +52,16 @@ loop-again c =
     behind-word fault _ _ _ ls b _ (c .before .before .before .before .before .loop-test .taken) (c .before .before .before .before .next .ensures) (c .before .before .before .if1 .taken) _ _
     (c .word-after .ensures fault (b .values) (b .told))
 
--- src/values.rt:75:5
 loop-less-2 : tie.Need-loop-less-2 Inv-loop μ-loop
 loop-less-2 c = omega (arith, c .before .next .ensures)
 
--- src/values.rt:75:5
 loop-again-2 : tie.Need-loop-again-2 Inv-loop μ-loop
 loop-again-2 c =
     λ fault ls t. behind-gap fault _ _ _ ls (c .before .before .before .loop .inv fault ls t) _ (c .before .before .loop-test .taken) (c .before .next .ensures) (c .if1 .left)
 
--- src/values.rt:65:1
 returns : tie.Need-returns Inv-loop μ-loop
 returns c = λ fault ls t. line-told fault _ _ _ ls (c .before .before .loop .inv fault ls t) (c .before .loop-test .left) (c .if2 .taken)
 
--- src/values.rt:65:1
 returns-2 : tie.Need-returns-2 Inv-loop μ-loop
 returns-2 c = λ fault ls t. line-empty fault _ _ _ ls (c .before .before .loop .inv fault ls t) (c .before .loop-test .left) (c .if2 .left)
 

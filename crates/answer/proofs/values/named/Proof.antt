@@ -3,31 +3,23 @@ use borrow.Author.Needs.{needs}
 use Rattle.answer.proofs.Naming.{other-variable, named-twice, named-once}
 use Rattle.answer.proofs.values.named.Statement.{statement}
 use Rattle.answer.proofs.values.named.Tie as tie
-use Rattle.answer.proofs.values.named.Reads as reads
-use Rattle.answer.proofs.values.named.Lts as lts
 
--- src/values.rt:35:9
 returns : tie.Need-returns
 returns c = λ fault l ls var s t. other-variable fault _ l ls var t (c .if1 .taken)
 
--- src/values.rt:37:13
 sub-i : tie.Need-sub-i
 sub-i c = search needs
 
--- src/values.rt:38:8
 element-copy-out-if2 : tie.Need-element-copy-out-if2
 element-copy-out-if2 c = search needs
 
--- src/values.rt:39:9
 returns-2 : tie.Need-returns-2
 returns-2 c =
     λ fault l ls var s t. named-twice fault _ l ls var t (c .before .before .before .pre .0) (c .before .before .before .pre .1) (c .before .before .if1 .left) (c .if2 .taken)
 
--- src/values.rt:41:5
 element-write-table : tie.Need-element-write-table
 element-write-table c = search needs
 
--- src/values.rt:27:1
 returns-3 : tie.Need-returns-3
 returns-3 c =
     λ fault l ls var s t. named-once fault _ l ls var t (c .before .before .before .pre .0) (c .before .before .before .pre .1) (c .before .before .if1 .left) s (c .if2 .left)

@@ -10,58 +10,44 @@ use Rattle.answer.proofs.OneWord.{word-refused, word-taken}
 use Rattle.answer.proofs.Stages.{not-open}
 use Rattle.answer.proofs.values.word_after.Statement.{statement}
 use Rattle.answer.proofs.values.word_after.Tie as tie
-use Rattle.answer.proofs.values.word_after.Reads as reads
-use Rattle.answer.proofs.values.word_after.Lts as lts
-use Rattle.answer.proofs.items.read_item.Reads as read-item-reads
-use Rattle.answer.proofs.values.named.Reads as named-reads
 
 enum-told : tie.Need-enum-told
 enum-told c = search needs
 
--- src/values.rt:54:9
 returns : tie.Need-returns
 returns c = λ fault vs t. word-refused fault _ _ _ _ _ vs t (not-open _ (c .match .keys2))
 
--- src/values.rt:56:11
 read-item-requires : tie.Need-read-item-requires
 read-item-requires c κs = search needs
 
--- src/values.rt:57:26
 enum-told-2 : tie.Need-enum-told-2
 enum-told-2 c = search needs
 
--- src/values.rt:58:18
 enum-known-v : tie.Need-enum-known-v
 enum-known-v c = search needs
 
--- src/values.rt:58:24
 named-requires : tie.Need-named-requires
 unfolding variableOf
 named-requires c κs =
     (literal-from-one _ _ (is _) (sym (ap itemTold (c .before .before .v .given .1)) ∙ c .before .before .before .before .read-item .ensures), c .before .before .before .before .before .before .before .before .pre)
 
--- src/values.rt:59:21
 enum-known-v-2 : tie.Need-enum-known-v-2
 enum-known-v-2 c = search needs
 
--- src/values.rt:59:27
 named-requires-2 : tie.Need-named-requires-2
 unfolding variableOf
 named-requires-2 c κs =
     (literal-from-one _ _ (isNot _) (sym (ap itemTold (c .before .before .v2 .given .1)) ∙ c .before .before .before .before .read-item .ensures), c .before .before .before .before .before .before .before .before .pre)
 
--- src/values.rt:60:25
 enum-told-3 : tie.Need-enum-told-3
 enum-told-3 c = search needs
 
--- src/values.rt:46:1
 returns-2 : tie.Need-returns-2
 unfolding itemAfter
 returns-2 c =
     λ fault. word-taken fault _ _ _ _ _ (c .before .before .before .enum-told .given .1)
     (sym (c .before .before .read-item .ensures) ∙ ap itemTold (c .enum-told2 .given .1)) _ _ (λ ls t. (refl, t))
 
--- src/values.rt:46:1
 returns-3 : tie.Need-returns-3
 unfolding itemAfter variableOf
 returns-3 c =
@@ -69,7 +55,6 @@ returns-3 c =
     (sym (c .before .before .before .before .before .read-item .ensures) ∙ ap itemTold (c .before .before .before .v .given .1)) _ _
     (λ ls t. c .named .ensures fault (is _) ls refl refl t)
 
--- src/values.rt:46:1
 returns-4 : tie.Need-returns-4
 unfolding itemAfter variableOf
 returns-4 c =
@@ -77,7 +62,6 @@ returns-4 c =
     (sym (c .before .before .before .before .before .read-item .ensures) ∙ ap itemTold (c .before .before .before .v2 .given .1)) _ _
     (λ ls t. c .named2 .ensures fault (isNot _) ls refl refl t)
 
--- src/values.rt:46:1
 returns-5 : tie.Need-returns-5
 unfolding itemAfter
 returns-5 c =
