@@ -3,21 +3,22 @@ use Prim.Native.Nat.{ℕ, zero, suc, _+_, _-_, _*_, _/_, _%_, _≤_, _<_}
 use mathlib.Core.Bool.{Bool, true, false}
 use mathlib.Core.List.{List, [], _∷_, _++_, map, flatMap}
 use mathlib.Core.Option.{Option, none, some}
-use mathlib.Core.Path.{_≡_, refl, sym, ap, subst, _∙_}
-use native.Mathlib.Nat.{div-add-mod', div-lt-iff-lt-mul, mod-lt, zero-mul, mul-comm}
+use mathlib.Core.Path.{_≡_, refl, sym, ap, ap₂, subst, _∙_}
+use native.Mathlib.Nat.{div-add-mod', div-lt-iff-lt-mul, mod-lt, mul-zero}
 use native.Mathlib.Omega.{arith}
 use lib.Dec.{eqb, ltb}
-use lib.ListN.{length, getElem?, length-map, length-append}
+use lib.ListN.{length, getD, getElem?, length-map}
 use borrow.Author.Tests.{eq-eqb, ne-eqb, lt-ltb, le-ltb}
 use native.Mathlib.Decide.{decLt}
-use Rattle.reply.proofs.Every.{Every, every-implied}
+use Rattle.reply.proofs.Every.{Every}
 use Rattle.term.specs.Term.{size}
 use Rattle.book.specs.Book.{Rule}
 use Rattle.clauses.specs.Cnf.{is, Clause}
-use Rattle.clauses.specs.Numbering.{numbers, baseAfter}
-use Rattle.clauses.specs.Blocks.{pairBlock, pairBlocksOf, pairBlocks, Numbered, subterms, Setting, CAt, nodeBlock, ruleBlocks, rulesBlocks}
+use Rattle.clauses.specs.Numbering.{numbers}
+use Rattle.clauses.specs.Blocks.{pairBlock, pairBlocksOf, pairBlocks, Numbered, subterms, Setting, CAt, nodeBlock, ruleBlocks}
+use Rattle.clauses.specs.Pairs.{Pair}
 use Rattle.clauses.proofs.Inside.{subterms-counted}
-use Rattle.clauses.proofs.Elements.{element-left, element-right, element-map, element-row, rows-length}
+use Rattle.clauses.proofs.Elements.{element-map, element-is, element-row, rows-length}
 use Rattle.clauses.proofs.Lists.{numbers-length}
 
 -- The r-th symbol besides f.
@@ -131,6 +132,43 @@ pair-at n k f r h l =
     (number-at 0 n f h ∙ ap some zeroth) l
     ∙ around-at n k f 0 n r (omega arith) (omega arith) l
     ∙ ap (λ (g : ℕ). some (pairBlock n k f (besides f g))) same
+
+-- A pair by its number p.
+module _ (n p others : ℕ) (few : n ≤ 16) (within : p < n * (n - 1)) (e : others ≡ n - 1) where
+  pub some-others : 0 < others
+  some-others = go others e
+    where
+      go : (m : ℕ) → m ≡ n - 1 → 0 < m
+      go zero f = absurd (omega (arith, ap (λ (x : ℕ). n * x) (sym f), mul-zero n))
+      go (suc m) f = omega arith
+
+  first-below : p / others < n
+  first-below = div-lt-iff-lt-mul some-others .1 (subst (λ (m : ℕ). p < n * m) (sym e) within)
+
+  rest-below : p % others < n - 1
+  rest-below = omega (arith, mod-lt p some-others)
+
+  pub pair-below : p % others < p / others → Pair n (p / others) (p % others)
+  pair-below h = record { few = few; one = omega (arith, first-below); other = omega (arith, rest-below); different = λ same. omega arith }
+
+  pub pair-above : p / others ≤ p % others → Pair n (p / others) (p % others + 1)
+  pair-above h = record { few = few; one = omega (arith, first-below); other = omega (arith, rest-below); different = λ same. omega arith }
+
+  numbered : (k : ℕ) → pairBlock n k (p / others) (besides (p / others) (p % others)) ≡ getD (pairBlocks n k) p []
+  numbered k =
+      element-is (pairBlocks n k) p []
+      (ap (getElem? (pairBlocks n k)) (sym (div-add-mod' p others) ∙ ap (λ (m : ℕ). p / others * m + p % others) e)
+      ∙ pair-at n k (p / others) (p % others) first-below rest-below)
+
+  pub pair-below-at :
+      {k bits : ℕ} → k ≡ bits → p % others < p / others → pairBlock n k (p / others) (p % others) ≡ getD (pairBlocks n bits) p []
+  pair-below-at {bits = bits} f h =
+      ap₂ (λ (k g : ℕ). pairBlock n k (p / others) g) f (sym (besides-below (p / others) (p % others) h)) ∙ numbered bits
+
+  pub pair-above-at :
+      {k bits : ℕ} → k ≡ bits → p / others ≤ p % others → pairBlock n k (p / others) (p % others + 1) ≡ getD (pairBlocks n bits) p []
+  pair-above-at {bits = bits} f h =
+      ap₂ (λ (k g : ℕ). pairBlock n k (p / others) g) f (sym (besides-above (p / others) (p % others) h)) ∙ numbered bits
 
 -- The blocks of a rule.
 module _ (c : Setting) (rule : Rule) where

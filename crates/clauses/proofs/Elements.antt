@@ -71,3 +71,8 @@ module _ {A : Type 0} where
   element-is [] i d e = let z : _≡_ {A = ℕ} 0 1 = cc in absurd (omega arith)
   element-is (y ∷ l) zero d e = cc
   element-is (y ∷ l) (suc i) d e = element-is l i d e
+
+pub element-map-none : {A B : Type 0} (f : A → B) (l : List A) (i : ℕ) → getElem? l i ≡ none → getElem? (map f l) i ≡ none
+element-map-none f [] i e = refl
+element-map-none f (y ∷ l) zero e = let z : _≡_ {A = ℕ} 0 1 = cc in absurd (omega arith)
+element-map-none f (y ∷ l) (suc i) e = element-map-none f l i e

@@ -8,6 +8,8 @@ use lib.ListN.{length, getD, take, drop, set, length-append, length-take, length
 use lib.Seq.{take-all, take-at, drop-at, take-append-add, take-append-le, drop-drop, length-take-le}
 use borrow.Rule.Slice.PartMut.{midOf, putMid}
 use Rattle.reply.specs.Text.{ascii}
+use Rattle.term.specs.Copied.{copied, overlaid}
+use Rattle.term.proofs.Copied.{copied-length, copied-first}
 use Rattle.clauses.specs.Cnf.{Literal, Clause}
 use Rattle.clauses.specs.File.{literalBytes, clauseBytes}
 use Rattle.clauses.specs.Laying.{Lays}
@@ -102,3 +104,17 @@ module _ (each : ℕ → List ℕ) (numbers : List ℕ) where
 pub clauses-text : (a b c : Clause) → (clauseBytes a ++ clauseBytes b) ++ clauseBytes c ≡ flatMap clauseBytes (a ∷ b ∷ c ∷ [])
 unfolding flatMap
 clauses-text a b c = simp (append-assoc, append-nil)
+
+-- A text that was copied.
+pub lays-copied :
+    {text before after : List ℕ} {many : ℕ} → many ≡ length (copied text 0 (length text) (length before)) →
+    after ≡ overlaid (copied text 0 (length text) (length before)) before → Lays text before many after
+lays-copied {text} {before} {after} {many} e f =
+    let part = copied text 0 (length text) (length before) in
+    record {
+      count = omega (arith, copied-length text 0 (length text) (length before));
+      bytes =
+          f
+          ∙ ap (λ (l : List ℕ). l ++ drop (length part) before) (copied-first text 0 (length text) (length before))
+          ∙ ap (λ (n : ℕ). take n text ++ drop n before) (sym e);
+    }

@@ -41,3 +41,5 @@ pub mod BlockNumbers
 pub mod RuleNumbers
 pub mod RulesWalk
 pub mod RulesBlocks
+pub mod PairCount
+pub mod FileBlocks

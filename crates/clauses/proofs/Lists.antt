@@ -59,3 +59,8 @@ flatten-suc (x ∷ l) (suc i) h =
 pub flatten-next :
     {A : Type 0} (l : List (List A)) (i : ℕ) → i < length l → length (flatten (take (i + 1) l)) ≡ length (flatten (take i l)) + length (getD l i [])
 flatten-next l i h = ap (λ (j : ℕ). length (flatten (take j l))) (add-one i) ∙ flatten-suc l i h
+
+pub flatten-append : {A : Type 0} (l m : List (List A)) → flatten (l ++ m) ≡ flatten l ++ flatten m
+unfolding flatten
+flatten-append [] m = refl
+flatten-append {A} (x ∷ l) m = ap (λ (r : List A). x ++ r) (flatten-append l m) ∙ sym (append-assoc x (flatten l) (flatten m))

@@ -3,7 +3,7 @@
 use Prim.Native.Nat.{ℕ, _+_, _-_, _*_, _≤_, _<_}
 use mathlib.Core.List.{List, [], _∷_, _++_, flatten}
 use mathlib.Core.Option.{none}
-use mathlib.Core.Path.{_≡_, refl, sym, ap, subst, _∙_}
+use mathlib.Core.Path.{_≡_, refl, sym, ap, ap₂, subst, _∙_}
 use native.Mathlib.Omega.{arith}
 use lib.ListN.{length, drop, getElem?, length-append, drop-of-length-le}
 use Rattle.term.specs.Tables.{rankBits}
@@ -12,14 +12,17 @@ use Rattle.book.specs.Meaning.{bookAt}
 use Rattle.book.specs.declared.Book.{Book as PlacedBook}
 use Rattle.clauses.specs.Cnf.{Clause}
 use Rattle.clauses.specs.Numbering.{firstBase, baseAfter}
-use Rattle.clauses.specs.Blocks.{Setting, ruleBlocks, rulesBlocks}
+use Rattle.clauses.specs.Blocks.{pairBlocks, ruleBlocks, rulesBlocks, blocks}
 use Rattle.clauses.specs.Nodes.{settingOf}
-use Rattle.clauses.specs.Read.{ReadFrom, settingAt, rulesOf, FoundIn, Finds}
-use Rattle.clauses.specs.declared.blocks.Found.the-variants.{InRule, Behind}
+use Rattle.clauses.specs.Read.{ReadFrom, settingAt, rulesOf}
+use Rattle.clauses.specs.Places.{FoundIn, Finds}
+use Rattle.clauses.specs.Rules.{RuleStands}
+use Rattle.clauses.specs.declared.blocks.Place.the-variants.{InRule, Nowhere}
 use Rattle.clauses.specs.declared.nodes.Setting.{Setting as PlacedSetting}
 use Rattle.clauses.proofs.Elements.{element-left, element-right}
+use Rattle.clauses.proofs.Lists.{flatten-append}
 use Rattle.clauses.proofs.RuleNumbers.{blocks-counted}
-use Rattle.clauses.proofs.RulesWalk.{RuleHere, rule-here, base-behind, read-there}
+use Rattle.clauses.proofs.RulesWalk.{RuleHere, rule-here, base-behind, read-there, read-symbols}
 
 -- The blocks of rule i and of those behind it.
 abbrev pub blocksFrom : (bytes : List ℕ) → PlacedBook → (base i : ℕ) → List (List Clause)
@@ -59,24 +62,29 @@ sought-starts b number base e bytes read = ap (λ (x : ℕ). getElem? (blocksFro
 
 module _ {b : PlacedBook} (number base i rest : ℕ) (small : base ≤ 7424) (sought : Sought b number base i rest) where
   pub sought-goes-on :
-      i < b .rules → (nodes : ℕ) → nodes ≡ settingAt b base i .height * settingAt b base i .width → nodes < rest →
-      Sought b number (base + 2 * nodes) (i + 1) (rest - (nodes + 1))
-  sought-goes-on h nodes e later bytes read = go (rule-here read base i small h)
+      i < b .rules → {c : PlacedSetting} → c ≡ settingAt b base i → c .height * c .width < rest →
+      Sought b number (base + 2 * (c .height * c .width)) (i + 1) (rest - (c .height * c .width + 1))
+  sought-goes-on h {c} e later bytes read = go (rule-here read base i small h)
     where
-      go : RuleHere bytes b base i → getElem? (rulesOf bytes b) number ≡ getElem? (blocksFrom bytes b (base + 2 * nodes) (i + 1)) (rest - (nodes + 1))
+      go :
+          RuleHere bytes b base i →
+          getElem? (rulesOf bytes b) number
+          ≡ getElem? (blocksFrom bytes b (base + 2 * (c .height * c .width)) (i + 1)) (rest - (c .height * c .width + 1))
       go here =
+          let nodes = ap (λ (s : PlacedSetting). s .height * s .width) e in
           let own = ruleBlocks (settingOf (settingAt b base i)) (here .rule) in
-          let split : length own + (rest - (nodes + 1)) ≡ rest = omega (arith, blocks-counted (here .stands)) in
+          let others = blocksFrom bytes b (base + 2 * (c .height * c .width)) (i + 1) in
+          let split : length own + (rest - (c .height * c .width + 1)) ≡ rest = omega (arith, blocks-counted (here .stands)) in
           sought bytes read
-          ∙ ap (λ (l : List (List Clause)). getElem? l rest) (blocks-parted here (ap (λ (x : ℕ). base + 2 * x) e))
-          ∙ ap (getElem? (own ++ blocksFrom bytes b (base + 2 * nodes) (i + 1))) (sym split)
-          ∙ element-right own (blocksFrom bytes b (base + 2 * nodes) (i + 1)) (rest - (nodes + 1))
+          ∙ ap (λ (l : List (List Clause)). getElem? l rest) (blocks-parted here (ap (λ (x : ℕ). base + 2 * x) nodes))
+          ∙ ap (getElem? (own ++ others)) (sym split)
+          ∙ element-right own others (rest - (c .height * c .width + 1))
 
   pub sought-found :
-      i < b .rules → (c : PlacedSetting) → c ≡ settingAt b base i → rest ≤ c .height * c .width → (bytes : List ℕ) → ReadFrom bytes b →
+      i < b .rules → {c : PlacedSetting} → c ≡ settingAt b base i → rest ≤ c .height * c .width → (bytes : List ℕ) → ReadFrom bytes b →
       Finds bytes b number (InRule c rest)
   unfolding Finds
-  sought-found h c e within bytes read =
+  sought-found h {c} e within bytes read =
       subst (λ (x : PlacedSetting). FoundIn bytes b number x rest) (sym e)
       (go (rule-here read base i small h) (subst (λ (x : PlacedSetting). rest ≤ x .height * x .width) e within))
     where
@@ -92,6 +100,50 @@ module _ {b : PlacedBook} (number base i rest : ℕ) (small : base ≤ 7424) (so
                 ∙ element-left (ruleBlocks (settingOf (settingAt b base i)) (here .rule)) _ rest (omega (arith, blocks-counted (here .stands)));
           }
 
-  pub sought-none : b .rules ≤ i → (bytes : List ℕ) → ReadFrom bytes b → Finds bytes b number Behind
+  pub sought-none : b .rules ≤ i → (bytes : List ℕ) → ReadFrom bytes b → Finds bytes b number Nowhere
   unfolding Finds
   sought-none h bytes read = sought bytes read ∙ ap (λ (l : List (List Clause)). getElem? l rest) (blocks-ended read base i h)
+
+-- Clauses that were counted, and those of the rules that are left.
+abbrev pub Counted : (bytes : List ℕ) → PlacedBook → (base i clauses : ℕ) → Type 0
+Counted bytes b base i clauses = clauses + length (flatten (blocksFrom bytes b base i)) ≡ length (flatten (blocks (bookAt bytes b)))
+
+abbrev rulesOver : List Rule → ℕ → List (List Clause)
+rulesOver rules n = rulesBlocks n (rankBits n) (firstBase n (rankBits n)) rules
+
+module _ {bytes : List ℕ} {b : PlacedBook} (read : ReadFrom bytes b) where
+  pub counted-starts :
+      (base clauses : ℕ) → base ≡ firstBase (b .symbols) (rankBits (b .symbols)) →
+      clauses ≡ length (flatten (pairBlocks (b .symbols) (rankBits (b .symbols)))) → Counted bytes b base 0 clauses
+  unfolding blocks
+  counted-starts base clauses e f =
+      ap₂ (λ (m x : ℕ). m + length (flatten (blocksFrom bytes b x 0))) f e
+      ∙ sym (length-append (flatten (pairBlocks (b .symbols) (rankBits (b .symbols)))) (flatten (rulesOver (bookAt bytes b .rules) (b .symbols))))
+      ∙ ap length (sym (flatten-append (pairBlocks (b .symbols) (rankBits (b .symbols))) (rulesOver (bookAt bytes b .rules) (b .symbols))))
+      ∙ ap (λ (n : ℕ). length (flatten (pairBlocks n (rankBits n) ++ rulesOver (bookAt bytes b .rules) n))) (sym (read-symbols read))
+
+  pub counted-goes-on :
+      (base i clauses : ℕ) → base ≤ 7424 → Counted bytes b base i clauses → i < b .rules → {c : PlacedSetting} → c ≡ settingAt b base i → (more : ℕ) →
+      ((rule : Rule) → RuleStands bytes (b .arities) c rule → more ≡ length (flatten (ruleBlocks (settingOf c) rule))) →
+      Counted bytes b (base + 2 * (c .height * c .width)) (i + 1) (clauses + more)
+  counted-goes-on base i clauses small known h {c} e more count = go (rule-here read base i small h)
+    where
+      go : RuleHere bytes b base i → Counted bytes b (base + 2 * (c .height * c .width)) (i + 1) (clauses + more)
+      go here =
+          let own = ruleBlocks (settingOf (settingAt b base i)) (here .rule) in
+          let others = blocksFrom bytes b (base + 2 * (c .height * c .width)) (i + 1) in
+          let here-count : more ≡ length (flatten own) =
+          count (here .rule) (subst (λ (s : PlacedSetting). RuleStands bytes (b .arities) s (here .rule)) (sym e) (here .stands))
+          ∙ ap (λ (s : PlacedSetting). length (flatten (ruleBlocks (settingOf s) (here .rule)))) e
+          in
+          let parted : length (flatten (blocksFrom bytes b base i)) ≡ length (flatten own) + length (flatten others) =
+          ap (λ (l : List (List Clause)). length (flatten l)) (blocks-parted here (ap (λ (s : PlacedSetting). base + 2 * (s .height * s .width)) e))
+          ∙ ap length (flatten-append own others)
+          ∙ length-append (flatten own) (flatten others)
+          in
+          omega arith
+
+  pub counted-ends : (base i clauses : ℕ) → Counted bytes b base i clauses → b .rules ≤ i → clauses ≡ length (flatten (blocks (bookAt bytes b)))
+  unfolding flatten
+  counted-ends base i clauses known h =
+      omega (arith, ap (λ (l : List (List Clause)). length (flatten l)) (blocks-ended read base i h))

@@ -31,6 +31,7 @@ use Rattle.clauses.specs.Blocks.{Numbered, subterms, baseBehind, «V»}
 use Rattle.clauses.specs.Nodes.{Bounded}
 use Rattle.clauses.specs.Read.{ReadFrom, WasRead, settingAt}
 use Rattle.clauses.specs.Rules.{SideStands, RuleStands}
+use Rattle.clauses.specs.declared.nodes.Setting.{Setting as PlacedSetting}
 use Rattle.clauses.proofs.Bounds.{variables-at-most}
 use Rattle.clauses.proofs.Elements.{element-member, element-there}
 use Rattle.clauses.proofs.Inside.{Inside, subterms-inside, arity-kept, symbol-declared}
@@ -158,12 +159,13 @@ unfolding baseAfter
 base-behind {base = base} here = ap (λ (x : ℕ). base + 2 * x) (ap₂ _*_ (here .stands .left .nodes) (here .stands .right .nodes))
 
 pub base-goes-on :
-    {b : PlacedBook} (base i : ℕ) → base ≤ 7424 → BaseAt b base i → i < b .rules → (base′ : ℕ) →
-    base′ ≡ base + 2 * (settingAt b base i .height * settingAt b base i .width) → BaseAt b base′ (i + 1)
+    {b : PlacedBook} → WasRead b → (base i : ℕ) → BaseAt b base i → i < b .rules → {c : PlacedSetting} → c ≡ settingAt b base i →
+    BaseAt b (base + 2 * (c .height * c .width)) (i + 1)
 unfolding baseBehind
-base-goes-on {b} base i small known h base′ e bytes read =
-    let here = rule-here read base i small h in
-    ap (λ (x : ℕ). baseBehind x (drop (i + 1) (bookAt bytes b .rules))) (e ∙ sym (base-behind here))
+base-goes-on {b} was base i known h e bytes read =
+    let here = rule-here read base i (base-small base i was known) h in
+    ap (λ (x : ℕ). baseBehind x (drop (i + 1) (bookAt bytes b .rules)))
+    (ap (λ (s : PlacedSetting). base + 2 * (s .height * s .width)) e ∙ sym (base-behind here))
     ∙ ap (baseBehind base) (sym (here .next))
     ∙ known bytes read
 
@@ -173,8 +175,10 @@ base-ends {b} base i known h bytes read =
     ap (baseBehind base) (sym (drop-of-length-le (bookAt bytes b .rules) {i = i} (omega (arith, read-there read .ruleCount)))) ∙ known bytes read
 
 -- A rule has at most 100 pairs of nodes.
-pub nodes-few :
-    {b : PlacedBook} → WasRead b → (base i : ℕ) → base ≤ 7424 → i < b .rules → settingAt b base i .height * settingAt b base i .width ≤ 10 * 10
-nodes-few {b} was base i small h =
-    let here = rule-here (was .read) base i small h in
-    product (settingAt b base i .height) (settingAt b base i .width) 10 10 (here .stands .left .small) (here .stands .right .small)
+pub few-nodes :
+    {b : PlacedBook} → WasRead b → (base i : ℕ) → BaseAt b base i → i < b .rules → {c : PlacedSetting} → c ≡ settingAt b base i →
+    c .height * c .width ≤ 10 * 10
+few-nodes {b} was base i known h {c} e =
+    let here = rule-here (was .read) base i (base-small base i was known) h in
+    subst (λ (s : PlacedSetting). s .height * s .width ≤ 10 * 10) (sym e)
+    (product (settingAt b base i .height) (settingAt b base i .width) 10 10 (here .stands .left .small) (here .stands .right .small))

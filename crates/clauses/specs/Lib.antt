@@ -10,4 +10,6 @@ pub mod Pairs
 pub mod Nodes
 pub mod Rules
 pub mod Read
+pub mod Places
+pub mod Written
 pub mod Computing

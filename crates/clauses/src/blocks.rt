@@ -1,14 +1,26 @@
 // The blocks of a read book.
 use crate::nodes::Setting;
+use crate::pairs::besides;
+use crate::pairs::write_pair_block;
+use crate::rules::rule_clauses;
+use crate::rules::write_rule_block;
+use crate::writing::write_byte;
+use crate::writing::write_decimal;
+use crate::writing::write_text;
+use crate::writing::write_variable;
 use book::Book;
-ghost use Prim.Native.Nat.{ℕ, _≤_, _<_};
-ghost use mathlib.Core.List.{List};
+ghost use Prim.Native.Nat.{ℕ, _-_, _*_, _≤_, _<_};
+ghost use mathlib.Core.List.{List, [], flatMap, flatten};
 ghost use mathlib.Core.Path.{_≡_};
+ghost use lib.ListN.{length, getD};
 ghost use Rattle.term.specs.Tables.{rankBits};
 ghost use Rattle.book.specs.Meaning.{bookAt};
-ghost use Rattle.clauses.specs.Blocks.{«V»};
+ghost use Rattle.clauses.specs.Blocks.{pairBlocks, blocks, «V»};
+ghost use Rattle.clauses.specs.File.{clauseBytes, header};
+ghost use Rattle.clauses.specs.Laying.{Lays};
 ghost use Rattle.clauses.specs.Numbering.{firstBase};
-ghost use Rattle.clauses.specs.Read.{ReadFrom, WasRead, settingAt, Finds};
+ghost use Rattle.clauses.specs.Read.{ReadFrom, WasRead, settingAt, countsText};
+ghost use Rattle.clauses.specs.Places.{Finds};
 
 // What the blocks of rule i share, whose numbers of C and D start at this base.
 fn setting_at(book: Book, base: usize, i: usize) -> Setting
@@ -54,14 +66,16 @@ pub fn variables(book: Book) -> usize
     base
 }
 
-// Where the rules' block of a number is: in a rule, with the number that it has there, or behind them all.
-pub enum Found {
+// Where a block is: the header, a pair with its number p, a rule with its setting and the block's number there, or nowhere.
+pub enum Place {
+    Header,
+    Pair(usize),
     InRule(Setting, usize),
-    Behind,
+    Nowhere,
 }
 
-// "Then for each rule a block (C of 0,0), and a block for each (u,v)": a rule has |l||r| + 1 blocks.
-fn find_rule(book: Book, number: usize) -> Found
+// The block of this number among the rules' blocks: "for each rule a block (C of 0,0), and a block for each (u,v)", so |l||r| + 1.
+fn find_rule(book: Book, number: usize) -> Place
     requires { ⌜ WasRead book ⌝ }
     ensures { λ r. ⌜ ((bytes : List ℕ) → ReadFrom bytes book → Finds bytes book number r) ⌝ }
 {
@@ -73,11 +87,79 @@ fn find_rule(book: Book, number: usize) -> Found
         let setting = setting_at(book, base, i);
         let nodes = setting.height * setting.width;
         if rest <= nodes {
-            return Found::InRule(setting, rest);
+            return Place::InRule(setting, rest);
         }
         rest -= nodes + 1;
         base += 2 * nodes;
         i += 1;
     }
-    Found::Behind
+    Place::Nowhere
+}
+
+// How many clauses the pairs' blocks have: 6k − 3 each.
+fn pairs_clauses(n: usize) -> usize
+    requires { ⌜ n ≤ 16 ⌝ }
+    ensures few { λ r. ⌜ r ≤ 5376 ⌝ }
+    ensures count { λ r. ⌜ r ≡ length (flatten (pairBlocks n (rankBits n))) ⌝ }
+{
+    let k = term::rank_bits(n);
+    if k == 0 {
+        return 0;
+    }
+    n * besides(n) * (6 * k - 3)
+}
+
+// "M the number of clauses that follow".
+pub fn clause_count(bytes: &[u8], book: Book) -> usize
+    requires { ⌜ ReadFrom (now bytes) book ⌝ }
+    ensures { λ r. ⌜ r ≡ length (flatten (blocks (bookAt (now (bytes .entry)) book))) ⌝ }
+{
+    let rules = book.rules;
+    let arities = book.arities;
+    let mut base = first_base(book.symbols);
+    let mut clauses = pairs_clauses(book.symbols);
+    let mut i = 0;
+    while i < rules {
+        let setting = setting_at(book, base, i);
+        clauses += rule_clauses(bytes, arities, setting);
+        base += 2 * (setting.height * setting.width);
+        i += 1;
+    }
+    clauses
+}
+
+// V and M of the header, and its newline.
+fn write_counts(variables: usize, clauses: usize, out: &mut [u8]) -> usize
+    ensures { λ r. ⌜ Lays (countsText variables clauses) (now (out .entry)) r (now (out .exit)) ⌝ }
+{
+    let mut at = write_variable(variables, out);
+    at += write_decimal(clauses, &mut out[at..]);
+    at + write_byte(b'\n', &mut out[at..])
+}
+
+// "Block 0: `p cnf V M` and a newline".
+fn write_header(bytes: &[u8], book: Book, out: &mut [u8]) -> usize
+    requires { ⌜ ReadFrom (now bytes) book ⌝ }
+    ensures { λ r. ⌜ Lays (header (bookAt (now (bytes .entry)) book)) (now (out .entry)) r (now (out .exit)) ⌝ }
+{
+    let v = variables(book);
+    let m = clause_count(bytes, book);
+    let at = write_text(b"p cnf ", out);
+    at + write_counts(v, m, &mut out[at..])
+}
+
+// The block of the pair with number p.
+fn write_pair(n: usize, p: usize, out: &mut [u8]) -> usize
+    requires { ⌜ (n ≤ 16) × (p < n * (n - 1)) ⌝ }
+    ensures { λ r. ⌜ Lays (flatMap clauseBytes (getD (pairBlocks n (rankBits n)) p [])) (now (out .entry)) r (now (out .exit)) ⌝ }
+{
+    let k = term::rank_bits(n);
+    let others = besides(n);
+    let f = p / others;
+    let rest = p % others;
+    if rest < f {
+        write_pair_block(n, k, f, rest, out)
+    } else {
+        write_pair_block(n, k, f, rest + 1, out)
+    }
 }

@@ -4,4 +4,14 @@ mod nodes;
 mod pairs;
 mod parts;
 mod rules;
-mod writing;
+pub mod writing;
+
+use book::BookVerdict;
+
+// What the block call answers: the length of the block that it laid, or a refusal: the book's own, 10 or 9.
+pub enum Written {
+    Laid(usize),
+    Unreadable(BookVerdict),
+    NoBlock,
+    ShortBuffer,
+}

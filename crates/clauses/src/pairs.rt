@@ -21,7 +21,7 @@ fn bit_number(k: usize, f: usize, b: usize) -> usize
 }
 
 // n − 1, the symbols besides one; 0 without symbols.
-fn besides(n: usize) -> usize
+pub fn besides(n: usize) -> usize
     ensures { λ r. ⌜ r ≡ n - 1 ⌝ }
 {
     if n == 0 { 0 } else { n - 1 }

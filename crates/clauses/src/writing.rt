@@ -21,6 +21,13 @@ pub fn write_byte(b: u8, out: &mut [u8]) -> usize
     }
 }
 
+// A text.
+pub fn write_text(text: &[u8], out: &mut [u8]) -> usize
+    ensures { λ r. ⌜ Lays (now (text .entry)) (now (out .entry)) r (now (out .exit)) ⌝ }
+{
+    term::copy(text, 0, text.len(), out)
+}
+
 // A digit, from 0 to 9.
 fn write_digit(d: usize, out: &mut [u8]) -> usize
     requires { ⌜ d < 10 ⌝ }
@@ -47,8 +54,8 @@ pub enum Literal {
     IsNot(usize),
 }
 
-// "a space after each"
-fn write_variable(v: usize, out: &mut [u8]) -> usize
+// A number and "a space after": a variable that is no negation.
+pub fn write_variable(v: usize, out: &mut [u8]) -> usize
     ensures { λ r. ⌜ Lays (literalBytes (is v)) (now (out .entry)) r (now (out .exit)) ⌝ }
 {
     let at = write_decimal(v, out);

@@ -1,12 +1,10 @@
 -- `blocks::find_rule` meets its contract: the loop has passed the blocks of the rules before the one that it comes to. Assumes nothing.
-use Prim.Native.Nat.{ℕ, _+_, _-_, _*_, _≤_}
-use mathlib.Core.Path.{_≡_, refl, ap}
+use Prim.Native.Nat.{ℕ, _-_, _*_, _≤_}
+use mathlib.Core.Path.{_≡_, refl}
 use native.Mathlib.Omega.{arith}
 use borrow.Author.Needs.{needs}
-use Rattle.clauses.specs.Read.{settingAt}
-use Rattle.clauses.specs.declared.nodes.Setting.{Setting}
 use Rattle.clauses.proofs.RulesBlocks.{Sought, sought-starts, sought-goes-on, sought-found, sought-none}
-use Rattle.clauses.proofs.RulesWalk.{BaseAt, base-starts, base-small, base-goes-on, nodes-few, read-few-symbols, read-few-rules}
+use Rattle.clauses.proofs.RulesWalk.{BaseAt, base-starts, base-small, base-goes-on, few-nodes, read-few-symbols, read-few-rules}
 use Rattle.clauses.proofs.blocks.find_rule.Statement.{statement}
 use Rattle.clauses.proofs.blocks.find_rule.Tie as tie
 
@@ -22,13 +20,8 @@ module _ (c : tie.After-struct-known Inv-loop μ-loop) where
   small : c .before .before .before .loop .base ≤ 7424
   small = base-small (c .before .before .before .loop .base) (c .before .before .before .loop .i) (c .before .before .before .before .before .pre) (c .before .before .before .loop .inv .2)
 
-  nodes-are :
-      c .before .setting-at .result .height * c .before .setting-at .result .width
-      ≡ settingAt (c .before .before .before .before .before .args .book) (c .before .before .before .loop .base) (c .before .before .before .loop .i) .height * settingAt (c .before .before .before .before .before .args .book) (c .before .before .before .loop .base) (c .before .before .before .loop .i) .width
-  nodes-are = ap (λ (s : Setting). s .height * s .width) (c .before .setting-at .ensures)
-
   few : c .before .setting-at .result .height * c .before .setting-at .result .width ≤ 100
-  few = omega (arith, nodes-few (c .before .before .before .before .before .pre) (c .before .before .before .loop .base) (c .before .before .before .loop .i) small (omega arith), nodes-are)
+  few = few-nodes (c .before .before .before .before .before .pre) (c .before .before .before .loop .base) (c .before .before .before .loop .i) (c .before .before .before .loop .inv .2) (omega arith) (c .before .setting-at .ensures)
 
 first-base-requires : tie.Need-first-base-requires Inv-loop μ-loop
 first-base-requires c κs = read-few-symbols (c .pre .read)
@@ -49,8 +42,7 @@ mul-nodes c = omega (arith, few c)
 
 returns : tie.Need-returns Inv-loop μ-loop
 returns c =
-    sought-found (c .before .before .before .before .before .before .args .number) (c .before .before .before .before .loop .base) (c .before .before .before .before .loop .i) (c .before .before .before .before .loop .rest) (small (c .before)) (c .before .before .before .before .loop .inv .3) (omega arith) (c .before .before .setting-at .result)
-    (c .before .before .setting-at .ensures)
+    sought-found (c .before .before .before .before .before .before .args .number) (c .before .before .before .before .loop .base) (c .before .before .before .before .loop .i) (c .before .before .before .before .loop .rest) (small (c .before)) (c .before .before .before .before .loop .inv .3) (omega arith) (c .before .before .setting-at .ensures)
     (c .if1 .taken)
 
 add-rest : tie.Need-add-rest Inv-loop μ-loop
@@ -75,8 +67,8 @@ loop-again : tie.Need-loop-again Inv-loop μ-loop
 loop-again c = (
   omega arith,
   c .before .before .before .before .loop .inv .1,
-  base-goes-on (c .before .before .before .before .loop .base) (c .before .before .before .before .loop .i) (small (c .before)) (c .before .before .before .before .loop .inv .2) (omega arith) _ (ap (λ (n : ℕ). c .before .before .before .before .loop .base + 2 * n) (nodes-are (c .before))),
-  sought-goes-on (c .before .before .before .before .before .before .args .number) (c .before .before .before .before .loop .base) (c .before .before .before .before .loop .i) (c .before .before .before .before .loop .rest) (small (c .before)) (c .before .before .before .before .loop .inv .3) (omega arith) _ (nodes-are (c .before)) (c .if1 .left),
+  base-goes-on (c .before .before .before .before .before .before .pre) (c .before .before .before .before .loop .base) (c .before .before .before .before .loop .i) (c .before .before .before .before .loop .inv .2) (omega arith) (c .before .before .setting-at .ensures),
+  sought-goes-on (c .before .before .before .before .before .before .args .number) (c .before .before .before .before .loop .base) (c .before .before .before .before .loop .i) (c .before .before .before .before .loop .rest) (small (c .before)) (c .before .before .before .before .loop .inv .3) (omega arith) (c .before .before .setting-at .ensures) (c .if1 .left),
 )
 
 returns-2 : tie.Need-returns-2 Inv-loop μ-loop

@@ -1,10 +1,9 @@
 -- `blocks::variables` meets its contract: the loop has the base before the rule that it comes to. Assumes nothing.
-use Prim.Native.Nat.{ℕ, _+_, _-_, _*_, _≤_}
-use mathlib.Core.Path.{_≡_, refl, ap}
+use Prim.Native.Nat.{ℕ, _-_, _*_, _≤_}
+use mathlib.Core.Path.{_≡_, refl}
 use native.Mathlib.Omega.{arith}
 use borrow.Author.Needs.{needs}
-use Rattle.clauses.specs.declared.nodes.Setting.{Setting}
-use Rattle.clauses.proofs.RulesWalk.{BaseAt, base-starts, base-small, base-goes-on, base-ends, nodes-few, read-few-symbols, read-few-rules}
+use Rattle.clauses.proofs.RulesWalk.{BaseAt, base-starts, base-small, base-goes-on, base-ends, few-nodes, read-few-symbols, read-few-rules}
 use Rattle.clauses.proofs.blocks.variables.Statement.{statement}
 use Rattle.clauses.proofs.blocks.variables.Tie as tie
 
@@ -19,12 +18,8 @@ module _ (c : tie.After-struct-known Inv-loop μ-loop) where
   small : c .before .before .before .loop .base ≤ 7424
   small = base-small (c .before .before .before .loop .base) (c .before .before .before .loop .i) (c .before .before .before .before .before .pre) (c .before .before .before .loop .inv .2)
 
-  nodes : c .before .setting-at .result .height * c .before .setting-at .result .width ≤ 100
-  nodes = omega (
-    arith,
-    nodes-few (c .before .before .before .before .before .pre) (c .before .before .before .loop .base) (c .before .before .before .loop .i) small (omega arith),
-    ap (λ (s : Setting). s .height * s .width) (c .before .setting-at .ensures),
-  )
+  few : c .before .setting-at .result .height * c .before .setting-at .result .width ≤ 100
+  few = few-nodes (c .before .before .before .before .before .pre) (c .before .before .before .loop .base) (c .before .before .before .loop .i) (c .before .before .before .loop .inv .2) (omega arith) (c .before .setting-at .ensures)
 
 first-base-requires : tie.Need-first-base-requires Inv-loop μ-loop
 first-base-requires c κs = read-few-symbols (c .pre .read)
@@ -36,13 +31,13 @@ setting-at-requires : tie.Need-setting-at-requires Inv-loop μ-loop
 setting-at-requires c κs = omega (arith, read-few-rules (c .before .before .before .pre .read))
 
 mul-base : tie.Need-mul-base Inv-loop μ-loop
-mul-base c = omega (arith, nodes c)
+mul-base c = omega (arith, few c)
 
 mul-base-2 : tie.Need-mul-base-2 Inv-loop μ-loop
-mul-base-2 c = omega (arith, nodes c)
+mul-base-2 c = omega (arith, few c)
 
 add-base : tie.Need-add-base Inv-loop μ-loop
-add-base c = omega (arith, nodes c, small c)
+add-base c = omega (arith, few c, small c)
 
 add-i : tie.Need-add-i Inv-loop μ-loop
 add-i c = omega (arith, read-few-rules (c .before .before .before .before .before .pre .read))
@@ -54,8 +49,7 @@ loop-again : tie.Need-loop-again Inv-loop μ-loop
 loop-again c = (
   omega arith,
   c .before .before .before .loop .inv .1,
-  base-goes-on (c .before .before .before .loop .base) (c .before .before .before .loop .i) (small c) (c .before .before .before .loop .inv .2) (omega arith) _
-      (ap (λ (s : Setting). c .before .before .before .loop .base + 2 * (s .height * s .width)) (c .before .setting-at .ensures)),
+  base-goes-on (c .before .before .before .before .before .pre) (c .before .before .before .loop .base) (c .before .before .before .loop .i) (c .before .before .before .loop .inv .2) (omega arith) (c .before .setting-at .ensures),
 )
 
 returns : tie.Need-returns Inv-loop μ-loop

@@ -1,0 +1,92 @@
+-- A read book's file by numbers: the header, then the pairs, then the rules. Assumes nothing.
+use Prim.Native.Nat.{ℕ, zero, suc, _+_, _-_, _*_, _≤_, _<_}
+use mathlib.Core.List.{List, [], _∷_, _++_, map, flatMap}
+use mathlib.Core.Option.{Option, none, some}
+use mathlib.Core.Path.{_≡_, refl, sym, ap, subst, _∙_}
+use native.Mathlib.Omega.{arith}
+use lib.ListN.{length, getD, getElem?}
+use Rattle.term.specs.Tables.{rankBits}
+use Rattle.book.specs.Meaning.{bookAt}
+use Rattle.book.specs.declared.Book.{Book as PlacedBook}
+use Rattle.clauses.specs.Cnf.{Clause}
+use Rattle.clauses.specs.Numbering.{firstBase}
+use Rattle.clauses.specs.Blocks.{pairBlocks, ruleBlocks, rulesBlocks, blocks}
+use Rattle.clauses.specs.File.{clauseBytes, header, fileBlocks}
+use Rattle.clauses.specs.Nodes.{settingOf}
+use Rattle.clauses.specs.Places.{FoundIn, Finds, RuleText, FindsBlock}
+use Rattle.clauses.specs.Read.{ReadFrom, rulesOf}
+use Rattle.clauses.specs.declared.blocks.Place.{Place}
+use Rattle.clauses.specs.declared.blocks.Place.the-variants.{Header, Pair, InRule, Nowhere}
+use Rattle.clauses.proofs.BlockNumbers.{pairs-count}
+use Rattle.clauses.proofs.Elements.{element-left, element-right, element-there, element-map, element-map-none}
+use Rattle.clauses.proofs.RuleNumbers.{blocks-counted}
+use Rattle.clauses.proofs.RulesWalk.{read-symbols}
+
+-- A number above 0 is one more than another.
+one-more : {A : Type 0} (l : List A) (x : A) (number : ℕ) → (number ≡ 0 → ⊥) → getElem? (x ∷ l) number ≡ getElem? l (number - 1)
+one-more l x zero ne = absurd (ne refl)
+one-more l x (suc i) ne = let same : i ≡ suc i - 1 = omega arith in ap (getElem? l) same
+
+module _ {bytes : List ℕ} {b : PlacedBook} (read : ReadFrom bytes b) where
+  blocks-of : blocks (bookAt bytes b) ≡ pairBlocks (b .symbols) (rankBits (b .symbols)) ++ rulesOf bytes b
+  unfolding blocks rulesOf
+  blocks-of =
+      ap (λ (n : ℕ). pairBlocks n (rankBits n) ++ rulesBlocks n (rankBits n) (firstBase n (rankBits n)) (bookAt bytes b .rules)) (read-symbols read)
+
+  many-pairs : length (pairBlocks (b .symbols) (rankBits (b .symbols))) ≡ b .symbols * (b .symbols - 1)
+  many-pairs = pairs-count (b .symbols) (rankBits (b .symbols))
+
+  module _ (number : ℕ) where
+    pub found-header : number ≡ 0 → FindsBlock bytes b number Header
+    unfolding FindsBlock fileBlocks
+    found-header e = ap (getElem? (header (bookAt bytes b) ∷ map (flatMap clauseBytes) (blocks (bookAt bytes b)))) e
+
+    module _ (ne : number ≡ 0 → ⊥) (pairs : ℕ) (counted : pairs ≡ b .symbols * (b .symbols - 1)) where
+      -- The text of the block behind the header.
+      text-at : {block : List Clause} → getElem? (blocks (bookAt bytes b)) (number - 1) ≡ some block → getElem? (fileBlocks (bookAt bytes b)) number ≡ some (flatMap clauseBytes block)
+      unfolding fileBlocks
+      text-at e =
+          one-more (map (flatMap clauseBytes) (blocks (bookAt bytes b))) (header (bookAt bytes b)) number ne
+          ∙ element-map (flatMap clauseBytes) (blocks (bookAt bytes b)) (number - 1) e
+
+      none-at : getElem? (blocks (bookAt bytes b)) (number - 1) ≡ none → getElem? (fileBlocks (bookAt bytes b)) number ≡ none
+      unfolding fileBlocks
+      none-at e =
+          one-more (map (flatMap clauseBytes) (blocks (bookAt bytes b))) (header (bookAt bytes b)) number ne
+          ∙ element-map-none (flatMap clauseBytes) (blocks (bookAt bytes b)) (number - 1) e
+
+      pub found-pair : number ≤ pairs → FindsBlock bytes b number (Pair (number - 1))
+      unfolding FindsBlock
+      found-pair h =
+          let all = pairBlocks (b .symbols) (rankBits (b .symbols)) in (
+            omega arith,
+            text-at
+                (ap (λ (l : List (List Clause)). getElem? l (number - 1)) blocks-of
+                ∙ element-left all (rulesOf bytes b) (number - 1) (omega (arith, many-pairs))
+                ∙ element-there all (number - 1) [] (omega (arith, many-pairs))),
+          )
+
+      behind-pairs : pairs < number → getElem? (blocks (bookAt bytes b)) (number - 1) ≡ getElem? (rulesOf bytes b) (number - 1 - pairs)
+      behind-pairs h =
+          let all = pairBlocks (b .symbols) (rankBits (b .symbols)) in
+          let split : number - 1 ≡ length all + (number - 1 - pairs) = omega (arith, many-pairs) in
+          ap (λ (l : List (List Clause)). getElem? l (number - 1)) blocks-of
+          ∙ ap (getElem? (all ++ rulesOf bytes b)) split
+          ∙ element-right all (rulesOf bytes b) (number - 1 - pairs)
+
+      pub found-rule : pairs < number → (place : Place) → Finds bytes b (number - 1 - pairs) place → FindsBlock bytes b number place
+      unfolding Finds FindsBlock
+      found-rule h Header no-way = absurd no-way
+      found-rule h (Pair p) no-way = absurd no-way
+      found-rule h (InRule c rest) found =
+          record {
+            rule = found .rule;
+            stands = found .stands;
+            within = found .within;
+            text =
+                text-at
+                (behind-pairs h
+                ∙ found .same
+                ∙ element-there (ruleBlocks (settingOf c) (found .rule)) rest [] (omega (arith, found .within, blocks-counted (found .stands))));
+          }
+      found-rule h Nowhere e = none-at (behind-pairs h ∙ e)
