@@ -17,6 +17,7 @@ use Rattle.clauses.specs.Places.{FoundIn, Finds, RuleText, FindsBlock}
 use Rattle.clauses.specs.Read.{ReadFrom, rulesOf}
 use Rattle.clauses.specs.declared.blocks.Place.{Place}
 use Rattle.clauses.specs.declared.blocks.Place.the-variants.{Header, Pair, InRule, Nowhere}
+use Rattle.clauses.specs.declared.nodes.Setting.{Setting as PlacedSetting}
 use Rattle.clauses.proofs.BlockNumbers.{pairs-count}
 use Rattle.clauses.proofs.Elements.{element-left, element-right, element-there, element-map, element-map-none}
 use Rattle.clauses.proofs.RuleNumbers.{blocks-counted}
@@ -90,3 +91,44 @@ module _ {bytes : List ℕ} {b : PlacedBook} (read : ReadFrom bytes b) where
                 ∙ element-there (ruleBlocks (settingOf c) (found .rule)) rest [] (omega (arith, found .within, blocks-counted (found .stands))));
           }
       found-rule h Nowhere e = none-at (behind-pairs h ∙ e)
+
+-- The text of a block at a place that was found.
+module _ (bytes : List ℕ) (b : PlacedBook) (number : ℕ) {place : Place} where
+  module _ {text : List ℕ} (finds : FindsBlock bytes b number place) (there : getElem? (fileBlocks (bookAt bytes b)) number ≡ some text) where
+    pub header-text : place ≡ Header → header (bookAt bytes b) ≡ text
+    unfolding FindsBlock
+    header-text e = let found = subst (FindsBlock bytes b number) e finds in cc
+
+    pub pair-text : {p : ℕ} → place ≡ Pair p → flatMap clauseBytes (getD (pairBlocks (b .symbols) (rankBits (b .symbols))) p []) ≡ text
+    unfolding FindsBlock
+    pair-text e = let found = subst (FindsBlock bytes b number) e finds .1 in cc
+
+    pub no-text : place ≡ Nowhere → ⊥
+    unfolding FindsBlock
+    no-text e =
+        let found = subst (FindsBlock bytes b number) e finds in
+        let z : _≡_ {A = ℕ} 0 1 = cc in omega arith
+
+  pub no-block-there : FindsBlock bytes b number place → place ≡ Nowhere → getElem? (fileBlocks (bookAt bytes b)) number ≡ none
+  unfolding FindsBlock
+  no-block-there finds e = subst (FindsBlock bytes b number) e finds
+
+  pub pair-there : {p : ℕ} → FindsBlock bytes b number place → place ≡ Pair p → p < b .symbols * (b .symbols - 1)
+  unfolding FindsBlock
+  pair-there finds e = subst (FindsBlock bytes b number) e finds .0
+
+  pub rule-there :
+      {c : PlacedSetting} {rest : ℕ} → FindsBlock bytes b number place → place ≡ InRule c rest →
+      RuleText bytes b (getElem? (fileBlocks (bookAt bytes b)) number) c rest
+  unfolding FindsBlock
+  rule-there finds e = subst (FindsBlock bytes b number) e finds
+
+-- A block that is somewhere has a text.
+pub some-text :
+    (bytes : List ℕ) (b : PlacedBook) (number : ℕ) (place : Place) → FindsBlock bytes b number place → (place ≡ Nowhere → ⊥) →
+    (text : List ℕ) × (getElem? (fileBlocks (bookAt bytes b)) number ≡ some text)
+unfolding FindsBlock
+some-text bytes b number Header finds somewhere = (_, finds)
+some-text bytes b number (Pair p) finds somewhere = (_, finds .1)
+some-text bytes b number (InRule c rest) finds somewhere = (_, finds .text)
+some-text bytes b number Nowhere finds somewhere = absurd (somewhere refl)

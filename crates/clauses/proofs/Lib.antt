@@ -43,3 +43,5 @@ pub mod RulesWalk
 pub mod RulesBlocks
 pub mod PairCount
 pub mod FileBlocks
+pub mod BlockCall
+pub mod ReadBooks

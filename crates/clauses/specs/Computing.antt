@@ -33,6 +33,7 @@ use Rattle.clauses.specs.File.{
   fileBlocks,
   fileBytes,
   numberedBlock,
+  blockOf,
   block,
   printed,
   clauseProgram,
@@ -41,5 +42,5 @@ use Rattle.clauses.specs.Item.{signed, literalOf, item}
 use Rattle.clauses.specs.Dimacs.{blank, ahead, allClosed, clausesOf, counted, behindHeader, fromWords, readDimacs}
 
 unfoldable pub computing : Unit {0}
-unfolding Computing.computing flatMap flatten holds someHolds allHold Satisfies bit pairNumber G firstBase baseAfter C D numbers rankBelow ranksOf pairClauses pairBlock pairBlocksOf pairBlocks numberedArgs subterms CAt DAt partsBehind partsOfD partsOfC someIdentical allParts someParts nodeBlock ruleBlocks rulesBlocks blocks baseBehind «V» clauseFile literalBytes clauseBytes header fileBlocks fileBytes numberedBlock block printed clauseProgram signed literalOf item blank ahead allClosed clausesOf counted behindHeader fromWords readDimacs
+unfolding Computing.computing flatMap flatten holds someHolds allHold Satisfies bit pairNumber G firstBase baseAfter C D numbers rankBelow ranksOf pairClauses pairBlock pairBlocksOf pairBlocks numberedArgs subterms CAt DAt partsBehind partsOfD partsOfC someIdentical allParts someParts nodeBlock ruleBlocks rulesBlocks blocks baseBehind «V» clauseFile literalBytes clauseBytes header fileBlocks fileBytes numberedBlock blockOf block printed clauseProgram signed literalOf item blank ahead allClosed clausesOf counted behindHeader fromWords readDimacs
 computing = tt

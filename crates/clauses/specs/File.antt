@@ -41,13 +41,18 @@ unfoldable pub numberedBlock : Option (List ℕ) → Reply (List ℕ)
 numberedBlock none = refused (10 at 0)
 numberedBlock (some bytes) = given bytes
 
--- ENTRY POINT: a block. "block 10, 9": 9 for a "lent buffer under 512 bytes"; `room` is the lent buffer's length.
+-- "block 10, 9", of a book that was read: 9 for a "lent buffer under 512 bytes"; `room` is the lent buffer's length.
+unfoldable pub blockOf : Book → (number room : ℕ) → Reply (List ℕ)
+blockOf book number room = do
+  bytes ← numberedBlock (getElem? (fileBlocks book) number)
+  unless (leb 512 room) (9 at 0)
+  given bytes
+
+-- ENTRY POINT: a block.
 unfoldable pub block : (book : List ℕ) (number room : ℕ) → Reply (List ℕ)
 block book number room = do
   b ← readBook book
-  bytes ← numberedBlock (getElem? (fileBlocks b) number)
-  unless (leb 512 room) (9 at 0)
-  given bytes
+  blockOf b number room
 
 -- "The clause program reads a book .. and prints all blocks, or the one line `refused N at P`."
 unfoldable pub printed : Reply Book → List ℕ

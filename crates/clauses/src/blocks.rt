@@ -1,4 +1,5 @@
 // The blocks of a read book.
+use crate::Written;
 use crate::nodes::Setting;
 use crate::pairs::besides;
 use crate::pairs::write_pair_block;
@@ -12,15 +13,18 @@ use book::Book;
 ghost use Prim.Native.Nat.{ℕ, _-_, _*_, _≤_, _<_};
 ghost use mathlib.Core.List.{List, [], flatMap, flatten};
 ghost use mathlib.Core.Path.{_≡_};
-ghost use lib.ListN.{length, getD};
+ghost use mathlib.Core.Option.{some};
+ghost use lib.ListN.{length, getD, getElem?};
+ghost use Rattle.reply.specs.Lent.{laid};
 ghost use Rattle.term.specs.Tables.{rankBits};
 ghost use Rattle.book.specs.Meaning.{bookAt};
 ghost use Rattle.clauses.specs.Blocks.{pairBlocks, blocks, «V»};
-ghost use Rattle.clauses.specs.File.{clauseBytes, header};
+ghost use Rattle.clauses.specs.File.{clauseBytes, header, fileBlocks, blockOf};
 ghost use Rattle.clauses.specs.Laying.{Lays};
 ghost use Rattle.clauses.specs.Numbering.{firstBase};
 ghost use Rattle.clauses.specs.Read.{ReadFrom, WasRead, settingAt, countsText};
-ghost use Rattle.clauses.specs.Places.{Finds};
+ghost use Rattle.clauses.specs.Places.{Finds, FindsBlock, SomeNumber};
+ghost use Rattle.clauses.specs.Written.{lengthOf, writtenMeaning};
 
 // What the blocks of rule i share, whose numbers of C and D start at this base.
 fn setting_at(book: Book, base: usize, i: usize) -> Setting
@@ -67,7 +71,7 @@ pub fn variables(book: Book) -> usize
 }
 
 // Where a block is: the header, a pair with its number p, a rule with its setting and the block's number there, or nowhere.
-pub enum Place {
+enum Place {
     Header,
     Pair(usize),
     InRule(Setting, usize),
@@ -162,4 +166,55 @@ fn write_pair(n: usize, p: usize, out: &mut [u8]) -> usize
     } else {
         write_pair_block(n, k, f, rest + 1, out)
     }
+}
+
+// The block of this number: the header, "Then a block for each ordered pair f ≠ g, by p. .. Then for each rule".
+fn find_block(book: Book, number: usize) -> Place
+    requires { ⌜ WasRead book ⌝ }
+    ensures { λ r. ⌜ ((bytes : List ℕ) → ReadFrom bytes book → FindsBlock bytes book number r) ⌝ }
+{
+    if number == 0 {
+        return Place::Header;
+    }
+    let n = book.symbols;
+    let pairs = n * besides(n);
+    if number <= pairs {
+        return Place::Pair(number - 1);
+    }
+    find_rule(book, number - 1 - pairs)
+}
+
+// The block at a place that was found.
+fn write_place(bytes: &[u8], book: Book, place: Place, out: &mut [u8]) -> usize
+    requires { ⌜ ReadFrom (now bytes) book × SomeNumber (now bytes) book place ⌝ }
+    ensures { λ r. ⌜ ((number : ℕ) (text : List ℕ) → FindsBlock (now (bytes .entry)) book number place → getElem? (fileBlocks (bookAt (now (bytes .entry)) book)) number ≡ some text → Lays text (now (out .entry)) r (now (out .exit))) ⌝ }
+{
+    match place {
+        Place::Header => write_header(bytes, book, out),
+        Place::Pair(p) => {
+            let n = book.symbols;
+            write_pair(n, p, out)
+        }
+        Place::InRule(setting, number) => {
+            let arities = book.arities;
+            write_rule_block(bytes, arities, setting, number, out)
+        }
+        Place::Nowhere => 0,
+    }
+}
+
+// "block 10, 9", of a book that was read from these bytes.
+pub fn write_read_block(bytes: &[u8], book: Book, number: usize, out: &mut [u8]) -> Written
+    requires { ⌜ ReadFrom (now bytes) book ⌝ }
+    ensures means { λ r. ⌜ writtenMeaning r ≡ lengthOf (blockOf (bookAt (now (bytes .entry)) book) number (length (now (out .entry)))) ⌝ }
+    ensures leaves { λ _. ⌜ now (out .exit) ≡ laid (blockOf (bookAt (now (bytes .entry)) book) number (length (now (out .entry)))) (now (out .entry)) ⌝ }
+{
+    let place = find_block(book, number);
+    if let Place::Nowhere = place {
+        return Written::NoBlock;
+    }
+    if out.len() < 512 {
+        return Written::ShortBuffer;
+    }
+    Written::Laid(write_place(bytes, book, place, out))
 }

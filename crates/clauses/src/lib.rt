@@ -7,6 +7,11 @@ mod rules;
 pub mod writing;
 
 use book::BookVerdict;
+ghost use mathlib.Core.Path.{_≡_};
+ghost use lib.ListN.{length};
+ghost use Rattle.reply.specs.Lent.{laid};
+ghost use Rattle.clauses.specs.File.{block};
+ghost use Rattle.clauses.specs.Written.{lengthOf, writtenMeaning};
 
 // What the block call answers: the length of the block that it laid, or a refusal: the book's own, 10 or 9.
 pub enum Written {
@@ -14,4 +19,19 @@ pub enum Written {
     Unreadable(BookVerdict),
     NoBlock,
     ShortBuffer,
+}
+
+// "The block call writes the block at the start of the lent buffer, replies with its length, and keeps the later bytes": refusals 1 to
+// 6, then 10, then 9.
+pub fn write_block(book: &[u8], number: u64, out: &mut [u8]) -> Written
+    ensures means { λ r. ⌜ writtenMeaning r ≡ lengthOf (block (now (book .entry)) number (length (now (out .entry)))) ⌝ }
+    ensures leaves { λ _. ⌜ now (out .exit) ≡ laid (block (now (book .entry)) number (length (now (out .entry)))) (now (out .entry)) ⌝ }
+{
+    let read = book::read_book(book);
+    let verdict = read.verdict;
+    let BookVerdict::Readable = verdict else {
+        return Written::Unreadable(verdict);
+    };
+    let places = read.book;
+    blocks::write_read_block(book, places, number as usize, out)
 }

@@ -17,7 +17,7 @@ use Rattle.book.specs.Record.{Fault, endedEarly, wrongKind, notDeclared, tooMan
 use Rattle.order.specs.Clearing.{allDecrease, ranksClear, checkRanks}
 use Rattle.clauses.specs.Cnf.{Literal}
 use Rattle.clauses.specs.Item.{Item, closing, literal, faulty}
-use Rattle.clauses.specs.File.{numberedBlock, block}
+use Rattle.clauses.specs.File.{numberedBlock, blockOf, block}
 use Rattle.answer.specs.Values.{Values, unclosed, closed, variableOf, named, itemAfter, itemsAfter}
 use Rattle.answer.specs.Lines.{Line, comment, verdict, values, noLine, Said, nothing, satisfied, noModel, verdictAfter, valuesAfter, lineAfter, linesAfter, lineOf, whole, readAnswer}
 use Rattle.answer.specs.Ranks.{answered, ranksFromAnswer}
@@ -127,7 +127,7 @@ numbered-only none = refusal-with _ tt
 numbered-only (some bytes) = result
 
 block-only : (book : Bytes) (number room : ℕ) → Only (1 ∷ 2 ∷ 3 ∷ 4 ∷ 5 ∷ 6 ∷ 10 ∷ 9 ∷ []) (block book number room)
-unfolding block
+unfolding block blockOf
 block-only book number room =
     after (more _ tt (book-only book)) (λ b. after (more _ tt (numbered-only _)) (λ bytes. test _ _ tt result))
 
