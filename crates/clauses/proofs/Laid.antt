@@ -46,6 +46,14 @@ pub lays-length : {text before after : List ℕ} {many : ℕ} → Lays text befo
 lays-length {text} {before} {after} {many} laid =
     ap length (laid .bytes) ∙ simp (length-append, length-take, length-drop) (let c = laid .count in omega arith)
 
+-- What is laid settles the count and the buffer.
+pub lays-settled :
+    {text before after after′ : List ℕ} {many many′ : ℕ} → Lays text before many after → Lays text before many′ after′ →
+    (many ≡ many′) × (after ≡ after′)
+lays-settled {text} {before} laid laid′ =
+    let same = laid .count ∙ sym (laid′ .count) in
+    (same, laid .bytes ∙ ap (λ (n : ℕ). take n text ++ drop n before) same ∙ sym (laid′ .bytes))
+
 -- Behind a text that was laid stands what stood there before.
 module _ {text before after : List ℕ} {many : ℕ} (laid : Lays text before many after) where
   fits : length (take many text) ≡ many

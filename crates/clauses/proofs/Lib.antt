@@ -45,3 +45,5 @@ pub mod PairCount
 pub mod FileBlocks
 pub mod BlockCall
 pub mod ReadBooks
+pub mod Settled
+pub mod SettledWriters

@@ -114,7 +114,7 @@ fn pairs_clauses(n: usize) -> usize
 }
 
 // "M the number of clauses that follow".
-pub fn clause_count(bytes: &[u8], book: Book) -> usize
+fn clause_count(bytes: &[u8], book: Book) -> usize
     requires { ⌜ ReadFrom (now bytes) book ⌝ }
     ensures { λ r. ⌜ r ≡ length (flatten (blocks (bookAt (now (bytes .entry)) book))) ⌝ }
 {
