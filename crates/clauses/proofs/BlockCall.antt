@@ -33,27 +33,29 @@ allowed-refused : {x : Reply (List ℕ)} {q : Refusal} (buffer : List ℕ) (r : 
 unfolding lengthOf laid
 allowed-refused buffer r e m = rw e (m, refl)
 
-module _ (book : Book) (number : ℕ) (buffer : List ℕ) where
-  no-block : getElem? (fileBlocks book) number ≡ none → blockOf book number (length buffer) ≡ refused (10 at 0)
+-- The reply of a book that was read.
+module _ (book : Book) (number room : ℕ) where
+  pub no-block : getElem? (fileBlocks book) number ≡ none → blockOf book number room ≡ refused (10 at 0)
   unfolding blockOf numberedBlock _>>=_
   no-block e = rw e
 
+  pub short-room : {text : List ℕ} → getElem? (fileBlocks book) number ≡ some text → room < 512 → blockOf book number room ≡ refused (9 at 0)
+  unfolding blockOf numberedBlock unless _>>=_ _>>_
+  short-room there h = rw (there, lt-leb _ _ h)
+
+  pub its-text : {text : List ℕ} → getElem? (fileBlocks book) number ≡ some text → 512 ≤ room → blockOf book number room ≡ given text
+  unfolding blockOf numberedBlock unless _>>=_ _>>_
+  its-text there h = rw (there, le-leb _ _ h)
+
+module _ (book : Book) (number : ℕ) (buffer : List ℕ) where
   pub none-laid : getElem? (fileBlocks book) number ≡ none → Allowed (blockOf book number (length buffer)) buffer NoBlock buffer
   unfolding writtenMeaning
-  none-laid e = allowed-refused buffer NoBlock (no-block e) refl
+  none-laid e = allowed-refused buffer NoBlock (no-block book number (length buffer) e) refl
 
   module _ {text : List ℕ} (there : getElem? (fileBlocks book) number ≡ some text) where
-    short : length buffer < 512 → blockOf book number (length buffer) ≡ refused (9 at 0)
-    unfolding blockOf numberedBlock unless _>>=_ _>>_
-    short h = rw (there, lt-leb _ _ h)
-
     pub short-buffer : length buffer < 512 → Allowed (blockOf book number (length buffer)) buffer ShortBuffer buffer
     unfolding writtenMeaning
-    short-buffer h = allowed-refused buffer ShortBuffer (short h) refl
-
-    enough : 512 ≤ length buffer → blockOf book number (length buffer) ≡ given text
-    unfolding blockOf numberedBlock unless _>>=_ _>>_
-    enough h = rw (there, le-leb _ _ h)
+    short-buffer h = allowed-refused buffer ShortBuffer (short-room book number (length buffer) there h) refl
 
     -- "A block never needs more than 512 bytes", so all of it is laid.
     whole : WithinLimits book → 512 ≤ length buffer → {many : ℕ} {after : List ℕ} → Lays text buffer many after → many ≡ length text
@@ -66,7 +68,7 @@ module _ (book : Book) (number : ℕ) (buffer : List ℕ) where
     unfolding writtenMeaning lengthOf laid
     block-laid limits h {many} laid =
         let all = whole limits h laid in
-        rw (enough h) (
+        rw (its-text book number (length buffer) there h) (
           ap (λ (n : ℕ). given n) all,
           laid .bytes
               ∙ ap (λ (n : ℕ). take n text ++ drop n buffer) all
@@ -74,6 +76,10 @@ module _ (book : Book) (number : ℕ) (buffer : List ℕ) where
         )
 
 -- The book's own refusals come first.
+pub block-of-read : (bytes : List ℕ) (number room : ℕ) (book : Book) → readBook bytes ≡ given book → block bytes number room ≡ blockOf book number room
+unfolding block
+block-of-read bytes number room book read = given-bind (readBook bytes) (λ b. blockOf b number room) book read
+
 module _ (bytes : List ℕ) (number : ℕ) (buffer : List ℕ) where
   book-refused : (r : Refusal) → refused r ≡ readBook bytes → block bytes number (length buffer) ≡ refused r
   unfolding block _>>=_
@@ -94,5 +100,4 @@ module _ (bytes : List ℕ) (number : ℕ) (buffer : List ℕ) where
   pub of-read-book :
       (book : Book) → readBook bytes ≡ given book → (r : Written) (after : List ℕ) → Allowed (blockOf book number (length buffer)) buffer r after →
       Allowed (block bytes number (length buffer)) buffer r after
-  unfolding block
-  of-read-book book read r after allowed = rw (given-bind (readBook bytes) (λ b. blockOf b number (length buffer)) book read) allowed
+  of-read-book book read r after allowed = rw (block-of-read bytes number (length buffer) book read) allowed

@@ -47,3 +47,4 @@ pub mod BlockCall
 pub mod ReadBooks
 pub mod Settled
 pub mod SettledWriters
+pub mod WholeFile
