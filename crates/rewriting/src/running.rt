@@ -1,5 +1,5 @@
 // The run: steps against a budget.
-use crate::stepping::Outcome;
+pub use crate::stepping::Outcome;
 use crate::stepping::Stepped;
 use crate::stepping::step;
 use book::Book;
