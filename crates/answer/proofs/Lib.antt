@@ -16,7 +16,6 @@ pub mod Told
 pub mod RanksAgree
 pub mod RankSums
 pub mod Afterwards
-pub mod ReadBooks
 pub mod Usual
 pub mod UsualRanks
 pub mod Settled
