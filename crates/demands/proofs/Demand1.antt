@@ -25,6 +25,7 @@ use Rattle.rewriting.specs.Run.{ranOn, run}
 use Rattle.rewriting.specs.Argument.{partOf, argumentOf, argument}
 use Rattle.demands.specs.EntryPoints.{Bytes, EntryPoint, bufferAfter, readingABook, aBlock, checkingRanks, ranksOfAnAnswer, aRun, anArgument, entryPoints}
 use Rattle.demands.specs.Demand1.{ResultOrRefusal, Demanded, Demand1}
+use Rattle.demands.proofs.Each.{noMore, also, each→}
 
 -- A reply that refuses only with these numbers.
 data Only (numbers : List ℕ) {A : Type 0} : Reply A → Type 0 where
@@ -255,26 +256,32 @@ refusal-leaves e asked buffer r p = ap (λ (x : Reply (e .Result)). laid (_>>=_ 
 demanded : (e : EntryPoint) → ((asked : e .Asked) → Only (e .numbers) (e .reply asked)) → Demanded e
 demanded e only = record { replies = λ asked. only→result-or-refusal (only asked); untouched = refusal-leaves e }
 
--- What is demanded of each entry point of a list.
-data Each : List EntryPoint → Type 1 where
-  noMore : Each []
-  also : {e : EntryPoint} {es : List EntryPoint} → Demanded e → Each es → Each (e ∷ es)
+pub book-demanded : Demanded readingABook
+unfolding readingABook
+book-demanded = demanded readingABook book-only
 
-each→ : {e : EntryPoint} {es : List EntryPoint} → Each es → List·Memᴰ e es → Demanded e
-each→ noMore m = elim m [ ]
-each→ (also d each) (List·Memᴰ·head p) = rw p d
-each→ (also d each) (List·Memᴰ·tail m) = each→ each m
+pub block-demanded : Demanded aBlock
+unfolding aBlock
+block-demanded = demanded aBlock (λ asked. block-only (asked .0) (asked .1) (asked .2))
 
-each : Each entryPoints
-unfolding entryPoints readingABook aBlock checkingRanks ranksOfAnAnswer aRun anArgument
-each =
-    also (demanded readingABook book-only)
-    (also (demanded aBlock (λ asked. block-only (asked .0) (asked .1) (asked .2)))
-    (also (demanded checkingRanks (λ asked. check-only (asked .0) (asked .1)))
-    (also (demanded ranksOfAnAnswer (λ asked. answer-only (asked .0) (asked .1) (asked .2)))
-    (also (demanded aRun (λ asked. run-only (asked .0) (asked .1) (asked .2) (asked .3) (asked .4)))
-    (also (demanded anArgument (λ asked. argument-only (asked .0) (asked .1) (asked .2))) noMore)))))
+pub ranks-demanded : Demanded checkingRanks
+unfolding checkingRanks
+ranks-demanded = demanded checkingRanks (λ asked. check-only (asked .0) (asked .1))
+
+pub answer-demanded : Demanded ranksOfAnAnswer
+unfolding ranksOfAnAnswer
+answer-demanded = demanded ranksOfAnAnswer (λ asked. answer-only (asked .0) (asked .1) (asked .2))
+
+pub run-demanded : Demanded aRun
+unfolding aRun
+run-demanded = demanded aRun (λ asked. run-only (asked .0) (asked .1) (asked .2) (asked .3) (asked .4))
+
+pub argument-demanded : Demanded anArgument
+unfolding anArgument
+argument-demanded = demanded anArgument (λ asked. argument-only (asked .0) (asked .1) (asked .2))
 
 pub demand1 : Demand1
-unfolding Demand1
-demand1 e m = each→ each m
+unfolding Demand1 entryPoints
+demand1 e m =
+    each→ Demanded
+    (also book-demanded (also block-demanded (also ranks-demanded (also answer-demanded (also run-demanded (also argument-demanded noMore)))))) m

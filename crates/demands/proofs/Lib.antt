@@ -3,3 +3,7 @@ pub mod Demand1
 pub mod Demand2
 pub mod Demand3
 pub mod RanksInCode
+pub mod Functions
+pub mod AsDefined
+pub mod Each
+pub mod Demand1InCode

@@ -1,6 +1,7 @@
 -- The six entry points side by side: what each is asked, what it replies, which numbers it refuses with, what it writes.
 use Prim.Native.Nat.{ℕ}
 use mathlib.Core.List.{List, [], _∷_}
+use lib.ListN.{length}
 use Rattle.reply.specs.Reply.{Reply, given, refused, _>>=_}
 use Rattle.reply.specs.Lent.{laid}
 use Rattle.term.specs.Prefix.{recordBytes}
@@ -10,19 +11,29 @@ use Rattle.order.specs.Clearing.{checkRanks}
 use Rattle.clauses.specs.File.{block}
 use Rattle.answer.specs.Ranks.{ranksFromAnswer}
 use Rattle.rewriting.specs.Run.{Ran, run}
+use Rattle.rewriting.specs.RunMeaning.{Told, toldOf}
 use Rattle.rewriting.specs.Argument.{Part, argument}
 
 -- Bytes: a book, ranks, a record, a solver's answer, a lent buffer.
 abbrev pub Bytes : Type 0
 Bytes = List ℕ
 
--- `written` is what a result lays at the start of the lent buffer: nothing where no buffer is lent.
+-- `written` is what a result lays at the start of the lent buffer: nothing where no buffer is lent. `told` is what the answer itself
+-- says of a result: of bytes that were written, how many there are.
 pub record EntryPoint : Type 1 where
   pub Asked : Type 0
   pub Result : Type 0
   pub reply : Asked → Reply Result
   pub numbers : List ℕ
   pub written : Result → Bytes
+  pub Answer : Type 0
+  pub told : Result → Answer
+
+-- What is answered.
+unfoldable pub answer : (e : EntryPoint) → e .Asked → Reply (e .Answer)
+answer e asked = do
+  result ← e .reply asked
+  given (e .told result)
 
 -- What the lent buffer holds afterwards.
 unfoldable pub bufferAfter : (e : EntryPoint) → e .Asked → Bytes → Bytes
@@ -42,6 +53,8 @@ readingABook =
       reply = readBook;
       numbers = 1 ∷ 2 ∷ 3 ∷ 4 ∷ 5 ∷ 6 ∷ [];
       written = λ book. [];
+      Answer = Book;
+      told = λ book. book;
     }
 
 -- A book, the block's number and the lent buffer's length: "block 10, 9".
@@ -53,6 +66,8 @@ aBlock =
       reply = λ asked. block (asked .0) (asked .1) (asked .2);
       numbers = 1 ∷ 2 ∷ 3 ∷ 4 ∷ 5 ∷ 6 ∷ 10 ∷ 9 ∷ [];
       written = λ bytes. bytes;
+      Answer = ℕ;
+      told = λ bytes. length bytes;
     }
 
 -- A book and ranks: "ranks 7, 8".
@@ -64,6 +79,8 @@ checkingRanks =
       reply = λ asked. checkRanks (asked .0) (asked .1);
       numbers = 1 ∷ 2 ∷ 3 ∷ 4 ∷ 5 ∷ 6 ∷ 7 ∷ 8 ∷ [];
       written = λ accepted. [];
+      Answer = Unit {0};
+      told = λ accepted. accepted;
     }
 
 -- A book, an answer and the lent buffer's length: "answer 12, 13, 14, 9, 8".
@@ -75,6 +92,8 @@ ranksOfAnAnswer =
       reply = λ asked. ranksFromAnswer (asked .0) (asked .1) (asked .2);
       numbers = 1 ∷ 2 ∷ 3 ∷ 4 ∷ 5 ∷ 6 ∷ 12 ∷ 13 ∷ 14 ∷ 9 ∷ 8 ∷ [];
       written = λ ranks. ranks;
+      Answer = ℕ;
+      told = λ ranks. length ranks;
     }
 
 -- A book, ranks, a record, a budget and the lent buffer's length: "run 7, 8, 11, 9".
@@ -86,6 +105,8 @@ aRun =
       reply = λ asked. run (asked .0) (asked .1) (asked .2) (asked .3) (asked .4);
       numbers = 1 ∷ 2 ∷ 3 ∷ 4 ∷ 5 ∷ 6 ∷ 7 ∷ 8 ∷ 11 ∷ 9 ∷ [];
       written = λ ran. recordBytes (ran .reached);
+      Answer = Told;
+      told = toldOf;
     }
 
 -- A book, a record and the argument's number: "argument 11, 15".
@@ -97,6 +118,8 @@ anArgument =
       reply = λ asked. argument (asked .0) (asked .1) (asked .2);
       numbers = 1 ∷ 2 ∷ 3 ∷ 4 ∷ 5 ∷ 6 ∷ 11 ∷ 15 ∷ [];
       written = λ part. [];
+      Answer = Part;
+      told = λ part. part;
     }
 
 unfoldable pub entryPoints : List EntryPoint

@@ -1,0 +1,65 @@
+-- Each function answers and writes what the definition of its entry point says. From its contract. Assumes nothing.
+use mathlib.Core.List.{[]}
+use mathlib.Core.Path.{_≡_, refl, ap, _∙_}
+use lib.ListN.{length}
+use Rattle.reply.specs.Reply.{Reply, Attempt, given, refused, _>>=_}
+use Rattle.reply.specs.Lent.{laid}
+use Rattle.answer.specs.Answered.{counted}
+use Rattle.rewriting.specs.Run.{ranBytes}
+use Rattle.rewriting.specs.RunMeaning.{runTold}
+use Rattle.demands.specs.EntryPoints.{Bytes, answer, bufferAfter, readingABook, checkingRanks, ranksOfAnAnswer, aRun, anArgument}
+use Rattle.demands.specs.InCode.{InCode, AsDefined}
+use Rattle.demands.proofs.Functions.{readBookInCode, checkRanksInCode, ranksFromAnswerInCode, runInCode, argumentInCode}
+
+module _ {A : Type 0} where
+  -- A reply whose result is told as it is, and one of which nothing is written.
+  itself : (reply : Reply A) → reply ≡ _>>=_ reply (λ a. given a)
+  unfolding _>>=_
+  itself (given a) = refl
+  itself (refused r) = refl
+
+  nothing-written : (reply : Reply A) → [] ≡ laid (_>>=_ reply (λ a. given [])) []
+  unfolding _>>=_ laid
+  nothing-written (given a) = refl
+  nothing-written (refused r) = refl
+
+-- Bytes that are written as they are, and counted.
+itself-written : (reply : Reply Bytes) (buffer : Bytes) → laid reply buffer ≡ laid (_>>=_ reply (λ bytes. given bytes)) buffer
+itself-written reply buffer = ap (λ (x : Reply Bytes). laid x buffer) (itself reply)
+
+its-length : (reply : Reply Bytes) → counted reply ≡ _>>=_ reply (λ bytes. given (length bytes))
+unfolding counted _>>=_
+its-length (given bytes) = refl
+its-length (refused r) = refl
+
+pub read-book-as-defined : AsDefined readBookInCode
+unfolding readBookInCode readingABook answer bufferAfter
+read-book-as-defined = record {
+  answers = λ call. call .ensured .1 ∙ itself _;
+  writes = λ call. nothing-written _;
+}
+
+pub check-ranks-as-defined : AsDefined checkRanksInCode
+unfolding checkRanksInCode checkingRanks answer bufferAfter
+check-ranks-as-defined = record {
+  answers = λ call. call .ensured ∙ itself _;
+  writes = λ call. nothing-written _;
+}
+
+pub ranks-from-answer-as-defined : AsDefined ranksFromAnswerInCode
+unfolding ranksFromAnswerInCode ranksOfAnAnswer answer bufferAfter
+ranks-from-answer-as-defined = record {
+  answers = λ call. call .ensured .0 ∙ its-length _;
+  writes = λ call. call .ensured .1 ∙ itself-written _ _;
+}
+
+pub run-as-defined : AsDefined runInCode
+unfolding runInCode aRun answer bufferAfter runTold ranBytes
+run-as-defined = record { answers = λ call. call .ensured .replied; writes = λ call. call .ensured .written }
+
+pub argument-as-defined : AsDefined argumentInCode
+unfolding argumentInCode anArgument answer bufferAfter
+argument-as-defined = record {
+  answers = λ call. call .ensured ∙ itself _;
+  writes = λ call. nothing-written _;
+}

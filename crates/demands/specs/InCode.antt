@@ -1,0 +1,37 @@
+-- An entry point as the code has it, by the contract of its function: what is promised of every call, whoever makes it.
+use mathlib.Core.List.{List, List·Memᴰ}
+use mathlib.Core.Path.{_≡_}
+use Rattle.reply.specs.Reply.{Refusal, Reply, Attempt, refused}
+use Rattle.demands.specs.EntryPoints.{Bytes, EntryPoint, answer, bufferAfter}
+use Rattle.demands.specs.Demand1.{ResultOrRefusal}
+
+-- What the contract of a function says. `Handed` is all that a caller can hand over, and `Required` what the contract asks of it. A call is
+-- one that the contract allows: what was asked, what the answer means, and the lent buffer before and after it (empty where none is lent).
+pub record InCode (e : EntryPoint) : Type 1 where
+  pub Handed : Type 0
+  pub Required : Handed → Type 0
+  pub Call : Type 0
+  pub asked : Call → e .Asked
+  pub answered : Call → Reply (e .Answer)
+  pub before : Call → Bytes
+  pub after : Call → Bytes
+
+-- Every call answers what the definition replies, and leaves in the lent buffer what it says.
+pub record AsDefined {e : EntryPoint} (code : InCode e) : Type 0 where
+  pub answers : (call : code .Call) → code .answered call ≡ answer e (code .asked call)
+  pub writes : (call : code .Call) → code .after call ≡ bufferAfter e (code .asked call) (code .before call)
+
+-- Demand 1 of a function: "takes arbitrary bytes ..", "replies with a result or a numbered refusal. A refusal changes no byte of any lent
+-- buffer."
+pub record DemandedInCode {e : EntryPoint} (code : InCode e) : Type 0 where
+  pub takes : (handed : code .Handed) → code .Required handed
+  pub replies : (call : code .Call) → ResultOrRefusal (e .numbers) (code .answered call)
+  pub untouched : (call : code .Call) (r : Refusal) → code .answered call ≡ refused r → code .after call ≡ code .before call
+
+-- The functions of the code, each with its entry point.
+pub record Function : Type 1 where
+  pub entry : EntryPoint
+  pub code : InCode entry
+
+unfoldable pub Demand1InCode : List Function → Type 1
+Demand1InCode functions = (f : Function) → List·Memᴰ f functions → DemandedInCode (f .code)
