@@ -33,32 +33,32 @@ its-length (given bytes) = refl
 its-length (refused r) = refl
 
 pub read-book-as-defined : AsDefined readBookInCode
-unfolding readBookInCode readingABook answer bufferAfter
+unfolding readBookInCode answer bufferAfter
 read-book-as-defined = record {
   answers = λ call. call .ensured .1 ∙ itself _;
   writes = λ call. nothing-written _;
 }
 
 pub check-ranks-as-defined : AsDefined checkRanksInCode
-unfolding checkRanksInCode checkingRanks answer bufferAfter
+unfolding checkRanksInCode answer bufferAfter
 check-ranks-as-defined = record {
   answers = λ call. call .ensured ∙ itself _;
   writes = λ call. nothing-written _;
 }
 
 pub ranks-from-answer-as-defined : AsDefined ranksFromAnswerInCode
-unfolding ranksFromAnswerInCode ranksOfAnAnswer answer bufferAfter
+unfolding ranksFromAnswerInCode answer bufferAfter
 ranks-from-answer-as-defined = record {
   answers = λ call. call .ensured .0 ∙ its-length _;
   writes = λ call. call .ensured .1 ∙ itself-written _ _;
 }
 
 pub run-as-defined : AsDefined runInCode
-unfolding runInCode aRun answer bufferAfter runTold ranBytes
+unfolding runInCode answer bufferAfter runTold ranBytes
 run-as-defined = record { answers = λ call. call .ensured .replied; writes = λ call. call .ensured .written }
 
 pub argument-as-defined : AsDefined argumentInCode
-unfolding argumentInCode anArgument answer bufferAfter
+unfolding argumentInCode answer bufferAfter
 argument-as-defined = record {
   answers = λ call. call .ensured ∙ itself _;
   writes = λ call. nothing-written _;

@@ -257,27 +257,21 @@ demanded : (e : EntryPoint) → ((asked : e .Asked) → Only (e .numbers) (e .re
 demanded e only = record { replies = λ asked. only→result-or-refusal (only asked); untouched = refusal-leaves e }
 
 pub book-demanded : Demanded readingABook
-unfolding readingABook
 book-demanded = demanded readingABook book-only
 
 pub block-demanded : Demanded aBlock
-unfolding aBlock
 block-demanded = demanded aBlock (λ asked. block-only (asked .0) (asked .1) (asked .2))
 
 pub ranks-demanded : Demanded checkingRanks
-unfolding checkingRanks
 ranks-demanded = demanded checkingRanks (λ asked. check-only (asked .0) (asked .1))
 
 pub answer-demanded : Demanded ranksOfAnAnswer
-unfolding ranksOfAnAnswer
 answer-demanded = demanded ranksOfAnAnswer (λ asked. answer-only (asked .0) (asked .1) (asked .2))
 
 pub run-demanded : Demanded aRun
-unfolding aRun
 run-demanded = demanded aRun (λ asked. run-only (asked .0) (asked .1) (asked .2) (asked .3) (asked .4))
 
 pub argument-demanded : Demanded anArgument
-unfolding anArgument
 argument-demanded = demanded anArgument (λ asked. argument-only (asked .0) (asked .1) (asked .2))
 
 pub demand1 : Demand1

@@ -2,11 +2,12 @@
 -- order bounds every sequence of free steps; and a run's steps are such a sequence. Assumes nothing.
 use Prim.Native.Nat.{ℕ, _≤_, _<_}
 use mathlib.Core.List.{List, List·Memᴰ}
+use mathlib.Core.Logic.{_⊎_, inl, inr}
 use mathlib.Core.Path.{_≡_, refl, sym, ap, ap₂, _∙_}
 use lib.ListN.{length}
 use Rattle.reply.specs.Reply.{Reply, given, refused}
 use Rattle.term.specs.Term.{Term}
-use Rattle.reply.proofs.Given.{refused-not-given, bind-given, then-given}
+use Rattle.reply.proofs.Given.{refused-not-given, bind-given, given-bind, then-given}
 use Rattle.book.specs.Book.{Book, Rule, symbols}
 use Rattle.book.specs.Reading.{readBook}
 use Rattle.book.specs.Record.{readRecord}
@@ -14,17 +15,18 @@ use Rattle.book.specs.Limits.{WithinLimits}
 use Rattle.book.proofs.Limits.{read-within-limits}
 use Rattle.order.specs.Precedence.{StrictPrecedence, Above}
 use Rattle.order.specs.Clearing.{Clears, Decreases, ranksClear}
-use Rattle.order.proofs.Checked.{ranks-clear-exactly}
+use Rattle.order.proofs.Checked.{ranks-clear-exactly, check-of-read}
 use Rattle.order.proofs.Grows.{over→declared}
 use Rattle.order.proofs.RanksOfPrecedence.{ranks-of-precedence}
 use Rattle.order.proofs.PathOrder.{ranks-order}
 use Rattle.rewriting.specs.Step.{Steps}
-use Rattle.rewriting.specs.Run.{spent, Ran, runFrom, ranOn, run}
+use Rattle.rewriting.specs.Run.{Outcome, done, spent, tooLarge, Ran, runFrom, ranOn, run}
 use Rattle.rewriting.proofs.Bound.{bounded}
 use Rattle.rewriting.proofs.Run.{never-spent}
+use Rattle.rewriting.proofs.RanOn.{then-run}
 use Rattle.demands.specs.EntryPoints.{Bytes}
 use Rattle.demands.specs.Demand2.{SomePrecedenceClears}
-use Rattle.demands.specs.Demand3.{Bounded, ComesToRest, NeverSpent, Demand3}
+use Rattle.demands.specs.Demand3.{Bounded, ComesToRest, NeverSpent, DoneOrTooLarge, Demand3}
 
 -- Ranks that clear bound every sequence of steps, from any term.
 pub ranks-bound : (ranks : List ℕ) (rules : List Rule) → Clears (Above ranks) rules → (t : Term) → Bounded rules t
@@ -112,5 +114,32 @@ pub run-never-spent : NeverSpent
 unfolding NeverSpent
 run-never-spent bytes ranks record′ = by-book bytes ranks record′ (readBook bytes) refl
 
+-- What a run is where nothing is refused.
+pub run-of :
+    (bytes ranks record′ : Bytes) (budget room : ℕ) (book : Book) (t : Term) → readBook bytes ≡ given book → ranksClear book ranks ≡ given tt →
+    readRecord book record′ ≡ given t → 513 ≤ room → run bytes ranks record′ budget room ≡ given (runFrom (book .rules) budget 0 t)
+unfolding run
+run-of bytes ranks record′ budget room book t readable cleared recorded roomy =
+    given-bind (readBook bytes) _ book readable ∙ then-run book ranks record′ budget room cleared recorded roomy
+
+-- An outcome that is not spent.
+not-spent : (outcome : Outcome) → (outcome ≡ spent → ⊥) → (outcome ≡ done) ⊎ (outcome ≡ tooLarge)
+not-spent done never = inl refl
+not-spent spent never = absurd (never refl)
+not-spent tooLarge never = inr refl
+
+pub run-done-or-too-large : DoneOrTooLarge
+unfolding DoneOrTooLarge Bounded
+run-done-or-too-large bytes ranks record′ book t readable accepted recorded =
+    let cleared : ranksClear book ranks ≡ given tt = sym (check-of-read bytes book ranks readable) ∙ accepted in
+    let bound = ranks-bound ranks (book .rules) (ranks-clear-exactly book ranks .0 cleared .1) t in (
+      bound .0,
+      λ budget room enough roomy. (
+        runFrom (book .rules) budget 0 t,
+        run-of bytes ranks record′ budget room book t readable cleared recorded roomy,
+        not-spent (runFrom (book .rules) budget 0 t .outcome) (never-spent (book .rules) t (bound .0) (bound .1) budget enough),
+      ),
+    )
+
 pub demand3 : Demand3
-demand3 = record { comesToRest = comes-to-rest; neverSpent = run-never-spent }
+demand3 = record { comesToRest = comes-to-rest; neverSpent = run-never-spent; doneOrTooLarge = run-done-or-too-large }

@@ -49,7 +49,6 @@ module _ {n : ℕ} (ps : List (PK n)) (r : RK n) (Pre : In n ps) (Post : Out n p
   }
 
 unfoldable pub readBookInCode : InCode readingABook
-unfolding readingABook
 readBookInCode =
     byContract read-book-kinds.ps read-book-kinds.r read-book.Pre read-book.Post readingABook
     (λ call. call .arguments .0 .now)
@@ -57,7 +56,6 @@ readBookInCode =
     (λ call. []) (λ call. [])
 
 unfoldable pub checkRanksInCode : InCode checkingRanks
-unfolding checkingRanks
 checkRanksInCode =
     byContract check-ranks-kinds.ps check-ranks-kinds.r check-ranks.Pre check-ranks.Post checkingRanks
     (λ call. (call .arguments .0 .now, call .arguments .1 .0 .now))
@@ -65,7 +63,6 @@ checkRanksInCode =
     (λ call. []) (λ call. [])
 
 unfoldable pub ranksFromAnswerInCode : InCode ranksOfAnAnswer
-unfolding ranksOfAnAnswer
 ranksFromAnswerInCode =
     byContract ranks-from-answer-kinds.ps ranks-from-answer-kinds.r ranks-from-answer.Pre ranks-from-answer.Post ranksOfAnAnswer
     (λ call. (call .arguments .0 .now, call .arguments .1 .0 .now, length (call .arguments .1 .1 .0 .now)))
@@ -73,7 +70,6 @@ ranksFromAnswerInCode =
     (λ call. call .arguments .1 .1 .0 .now) (λ call. now (call .atExit .1 .1 .0))
 
 unfoldable pub runInCode : InCode aRun
-unfolding aRun
 runInCode =
     byContract run-kinds.ps run-kinds.r run.Pre run.Post aRun
     (λ call. (
@@ -87,7 +83,6 @@ runInCode =
     (λ call. call .arguments .1 .1 .1 .1 .0 .now) (λ call. now (call .atExit .1 .1 .1 .1 .0))
 
 unfoldable pub argumentInCode : InCode anArgument
-unfolding anArgument
 argumentInCode =
     byContract argument-reply-kinds.ps argument-reply-kinds.r argument-reply.Pre argument-reply.Post anArgument
     (λ call. (call .arguments .0 .now, call .arguments .1 .0 .now, call .arguments .1 .1 .0))

@@ -7,3 +7,4 @@ pub mod Functions
 pub mod AsDefined
 pub mod Each
 pub mod Demand1InCode
+pub mod RunInCode

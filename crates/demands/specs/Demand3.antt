@@ -1,14 +1,17 @@
 -- Demand 3: a cleared book comes to rest.
 use Prim.Native.Nat.{ℕ, _≤_}
 use mathlib.Core.List.{List}
+use mathlib.Core.Logic.{_⊎_}
 use mathlib.Core.Path.{_≡_}
 use lib.Dec.{T}
 use Rattle.reply.specs.Reply.{given}
 use Rattle.term.specs.Term.{Term, over, variableFree}
 use Rattle.book.specs.Book.{Book, Rule}
 use Rattle.book.specs.Reading.{readBook}
+use Rattle.book.specs.Record.{readRecord}
+use Rattle.order.specs.Clearing.{checkRanks}
 use Rattle.rewriting.specs.Step.{Steps}
-use Rattle.rewriting.specs.Run.{spent, Ran, run}
+use Rattle.rewriting.specs.Run.{done, spent, tooLarge, Ran, run}
 use Rattle.demands.specs.EntryPoints.{Bytes}
 use Rattle.demands.specs.Demand2.{SomePrecedenceClears}
 
@@ -29,6 +32,16 @@ NeverSpent =
     (bytes ranks record′ : Bytes) →
     (N : ℕ) × ((budget room : ℕ) (ran : Ran) → N ≤ budget → run bytes ranks record′ budget room ≡ given ran → ran .outcome ≡ spent → ⊥)
 
+-- And it isn't refused with ranks that are accepted, a well-formed record and a lent buffer of 513 bytes: it answers done or too large.
+unfoldable pub DoneOrTooLarge : Type 0
+DoneOrTooLarge =
+    (bytes ranks record′ : Bytes) (book : Book) (t : Term) → readBook bytes ≡ given book → checkRanks bytes ranks ≡ given tt →
+    readRecord book record′ ≡ given t →
+    (N : ℕ)
+    × ((budget room : ℕ) → N ≤ budget → 513 ≤ room →
+    (ran : Ran) × (run bytes ranks record′ budget room ≡ given ran) × ((ran .outcome ≡ done) ⊎ (ran .outcome ≡ tooLarge)))
+
 pub record Demand3 : Type 1 where
   pub comesToRest : ComesToRest
   pub neverSpent : NeverSpent
+  pub doneOrTooLarge : DoneOrTooLarge

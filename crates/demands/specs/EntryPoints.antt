@@ -45,7 +45,7 @@ bufferAfter e asked buffer =
     buffer
 
 -- A book.
-unfoldable pub readingABook : EntryPoint
+abbrev pub readingABook : EntryPoint
 readingABook =
     record {
       Asked = Bytes;
@@ -58,7 +58,7 @@ readingABook =
     }
 
 -- A book, the block's number and the lent buffer's length: "block 10, 9".
-unfoldable pub aBlock : EntryPoint
+abbrev pub aBlock : EntryPoint
 aBlock =
     record {
       Asked = Bytes × ℕ × ℕ;
@@ -71,7 +71,7 @@ aBlock =
     }
 
 -- A book and ranks: "ranks 7, 8".
-unfoldable pub checkingRanks : EntryPoint
+abbrev pub checkingRanks : EntryPoint
 checkingRanks =
     record {
       Asked = Bytes × Bytes;
@@ -84,7 +84,7 @@ checkingRanks =
     }
 
 -- A book, an answer and the lent buffer's length: "answer 12, 13, 14, 9, 8".
-unfoldable pub ranksOfAnAnswer : EntryPoint
+abbrev pub ranksOfAnAnswer : EntryPoint
 ranksOfAnAnswer =
     record {
       Asked = Bytes × Bytes × ℕ;
@@ -97,7 +97,7 @@ ranksOfAnAnswer =
     }
 
 -- A book, ranks, a record, a budget and the lent buffer's length: "run 7, 8, 11, 9".
-unfoldable pub aRun : EntryPoint
+abbrev pub aRun : EntryPoint
 aRun =
     record {
       Asked = Bytes × Bytes × Bytes × ℕ × ℕ;
@@ -110,7 +110,7 @@ aRun =
     }
 
 -- A book, a record and the argument's number: "argument 11, 15".
-unfoldable pub anArgument : EntryPoint
+abbrev pub anArgument : EntryPoint
 anArgument =
     record {
       Asked = Bytes × Bytes × ℕ;

@@ -1,0 +1,81 @@
+-- Demands 2 and 3 of the running code's `run`: what the definition of a run keeps to, every call that its contract allows keeps to.
+-- Assumes nothing.
+use Prim.Native.Nat.{ℕ, _≤_}
+use mathlib.Core.Logic.{_⊎_}
+use mathlib.Core.Path.{_≡_, refl, sym, ap, subst, _∙_}
+use Rattle.reply.specs.Reply.{Reply, Attempt, given, _>>=_}
+use Rattle.reply.specs.Lent.{laid}
+use Rattle.reply.proofs.Given.{bind-given}
+use Rattle.term.specs.Term.{Term}
+use Rattle.term.specs.Prefix.{recordBytes}
+use Rattle.book.specs.Book.{Book}
+use Rattle.book.specs.Reading.{readBook}
+use Rattle.book.specs.Record.{readRecord}
+use Rattle.rewriting.specs.Run.{Ran, run, ranBytes}
+use Rattle.rewriting.specs.RunMeaning.{Told, toldOf, runTold}
+use Rattle.demands.specs.EntryPoints.{Bytes, answer, bufferAfter, aRun}
+use Rattle.demands.specs.Demand2.{RunYields}
+use Rattle.demands.specs.Demand3.{DoneOrTooLarge}
+use Rattle.demands.specs.InCode.{InCode, AsDefined}
+use Rattle.demands.specs.RunInCode.{Yielded, RunYieldsInCode, ComesToRestInCode}
+use Rattle.demands.proofs.Demand2.{demand2}
+use Rattle.demands.proofs.Demand3.{demand3}
+use Rattle.demands.proofs.Functions.{runInCode}
+use Rattle.demands.proofs.AsDefined.{run-as-defined}
+
+module _ (code : InCode aRun) (as-defined : AsDefined code) where
+  module _ (call : code .Call) (bytes ranks record′ : Bytes) (budget room : ℕ) (asked : code .asked call ≡ (bytes, ranks, record′, budget, room)) where
+    answered-so : code .answered call ≡ runTold (run bytes ranks record′ budget room)
+    unfolding answer runTold
+    answered-so = as-defined .answers call ∙ ap (answer aRun) asked
+
+    written-so : code .after call ≡ laid (ranBytes (run bytes ranks record′ budget room)) (code .before call)
+    unfolding bufferAfter ranBytes
+    written-so = as-defined .writes call ∙ ap (λ x. bufferAfter aRun x (code .before call)) asked
+
+    -- A run that was answered: it is told, and its term's record lies in the lent buffer.
+    module _ (ran : Ran) (ran-so : run bytes ranks record′ budget room ≡ given ran) where
+      pub told-so : code .answered call ≡ given (toldOf ran)
+      unfolding runTold _>>=_
+      told-so = answered-so ∙ ap runTold ran-so
+
+      pub laid-so : code .after call ≡ laid (given (recordBytes (ran .reached))) (code .before call)
+      unfolding ranBytes _>>=_
+      laid-so = written-so ∙ ap (λ (x : Reply Ran). laid (ranBytes x) (code .before call)) ran-so
+
+    pub ran-as : (told : Told) → code .answered call ≡ given told → (ran : Ran) × (run bytes ranks record′ budget room ≡ given ran) × (toldOf ran ≡ told)
+    unfolding runTold
+    ran-as told e =
+        let (ran, ran-so, tells) = bind-given _ _ _ (sym answered-so ∙ e) in
+        (ran, ran-so, cc tells)
+
+    yielded :
+        (book : Book) (t : Term) → readBook bytes ≡ given book → readRecord book record′ ≡ given t →
+        (ran : Ran) → run bytes ranks record′ budget room ≡ given ran → Yielded book t budget (toldOf ran) (code .before call) (code .after call)
+    unfolding toldOf RunYields
+    yielded book t read recorded ran ran-so =
+        let (steps, means) = demand2 .runs bytes ranks record′ budget room book t ran read recorded ran-so in
+        record { reached = ran .reached; steps = steps; means = means; long = refl; holds = laid-so ran ran-so }
+
+  yields : RunYieldsInCode code
+  unfolding RunYieldsInCode
+  yields call bytes ranks record′ budget room book t told asked read recorded e =
+      let (ran, ran-so, tells) = ran-as call bytes ranks record′ budget room asked told e in
+      subst (λ (x : Told). Yielded book t budget x (code .before call) (code .after call)) tells
+      (yielded call bytes ranks record′ budget room asked book t read recorded ran ran-so)
+
+  comes-to-rest : ComesToRestInCode code
+  unfolding ComesToRestInCode DoneOrTooLarge toldOf
+  comes-to-rest bytes ranks record′ book t read accepted recorded =
+      let (N, rests) = demand3 .doneOrTooLarge bytes ranks record′ book t read accepted recorded in (
+        N,
+        λ call budget room asked enough roomy.
+            let (ran, ran-so, outcome) = rests budget room enough roomy in
+            (toldOf ran, told-so call bytes ranks record′ budget room asked ran ran-so, outcome),
+      )
+
+pub run-yields-in-code : RunYieldsInCode runInCode
+run-yields-in-code = yields runInCode run-as-defined
+
+pub run-comes-to-rest-in-code : ComesToRestInCode runInCode
+run-comes-to-rest-in-code = comes-to-rest runInCode run-as-defined
