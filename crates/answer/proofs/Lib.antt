@@ -19,3 +19,4 @@ pub mod Afterwards
 pub mod Usual
 pub mod UsualRanks
 pub mod Settled
+pub mod UsualBytes

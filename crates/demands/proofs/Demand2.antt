@@ -8,6 +8,7 @@ use native.Mathlib.Nat.{lt-of-lt-of-le}
 use lib.Dec.{T}
 use lib.ListN.{length}
 use Rattle.reply.specs.Reply.{given}
+use Rattle.reply.proofs.Every.{every-member}
 use Rattle.term.specs.Tables.{rankBits}
 use Rattle.term.proofs.Tables.{rank-bits-least}
 use Rattle.term.specs.Term.{Term}
@@ -17,12 +18,12 @@ use Rattle.book.specs.Record.{readRecord}
 use Rattle.book.specs.Limits.{WithinLimits}
 use Rattle.book.proofs.Limits.{read-within-limits}
 use Rattle.order.specs.Precedence.{StrictPrecedence, Above}
-use Rattle.order.specs.Clearing.{Clears}
-use Rattle.order.proofs.Checked.{accepted-exactly}
+use Rattle.order.specs.Clearing.{Clears, ranksClear}
+use Rattle.order.proofs.Checked.{ranks-clear-exactly, accepted-exactly}
 use Rattle.order.proofs.RanksOfPrecedence.{ranks-strict}
 use Rattle.clauses.specs.Cnf.{Cnf, Assignment, Satisfies, allHold}
 use Rattle.clauses.specs.Numbering.{ranksOf}
-use Rattle.clauses.specs.Blocks.{blocks}
+use Rattle.clauses.specs.Blocks.{blocks, «V»}
 use Rattle.clauses.specs.File.{clauseFile, fileBytes, clauseProgram}
 use Rattle.clauses.specs.Dimacs.{readDimacs}
 use Rattle.clauses.proofs.Equations.{Equations}
@@ -32,7 +33,11 @@ use Rattle.clauses.proofs.Assigned.{assigned, ranks-of-assigned}
 use Rattle.clauses.proofs.RanksExtend.{clearing-satisfies}
 use Rattle.clauses.proofs.ExtendsUniquely.{extends-uniquely}
 use Rattle.clauses.proofs.Dimacs.{file-reads-back, program-prints}
-use Rattle.answer.proofs.Checked.{answers-are-checked}
+use Rattle.answer.specs.Ranks.{ranksFromAnswer}
+use Rattle.answer.specs.Usual.{usualAnswer}
+use Rattle.answer.proofs.Checked.{answers-are-checked, length-ranksOf}
+use Rattle.answer.proofs.UsualBytes.{usual-bytes}
+use Rattle.answer.proofs.UsualRanks.{usual-ranks}
 use Rattle.rewriting.specs.Step.{OwnSteps}
 use Rattle.rewriting.specs.Run.{Ran, Means, run, runFrom}
 use Rattle.rewriting.proofs.OwnStep.{own-step-is-free}
@@ -48,6 +53,9 @@ use Rattle.demands.specs.Demand2.{
   ExtendOnlyOnce,
   AcceptedExactlyIfDecreasing,
   AnswersAreChecked,
+  UsualAnswersAreAccepted,
+  AcceptedAnswer,
+  AcceptedAnswerExactlyIfCleared,
   RunYields,
   OwnStepIsFree,
   Demand2,
@@ -97,17 +105,17 @@ fit-the-bits :
     (rank : ℕ) → List·Memᴰ rank ranks → rank < 2 ^ rankBits (symbols book)
 fit-the-bits book limits ranks below rank m = lt-of-lt-of-le (below rank m) (rank-bits-least (symbols book) (limits .symbolCount) .0)
 
+-- Ranks that clear are a strict precedence that does.
+pub ranks-precede : (book : Book) (ranks : List ℕ) → Clears (Above ranks) (book .rules) → SomePrecedenceClears book
+ranks-precede book ranks clears = record { above = Above ranks; strict = ranks-strict (symbols book) ranks; clears = clears }
+
 satisfiable-exactly : SatisfiableExactlyIfCleared
 unfolding SatisfiableExactlyIfCleared rankBitsOf RankBitsClear
 satisfiable-exactly bytes book read = (cleared, assignment)
   where
     cleared : ((α : Assignment) × SatisfyingAssignment (clauseProgram bytes) α) → SomePrecedenceClears book
     cleared (α, found) =
-        record {
-          above = Above (rankBitsOf book α);
-          strict = ranks-strict (symbols book) (rankBitsOf book α);
-          clears = rank-bits-clear bytes book α read found;
-        }
+        ranks-precede book (rankBitsOf book α) (rank-bits-clear bytes book α read found)
 
     assignment : SomePrecedenceClears book → (α : Assignment) × SatisfyingAssignment (clauseProgram bytes) α
     assignment p =
@@ -117,6 +125,37 @@ satisfiable-exactly bytes book read = (cleared, assignment)
           satisfying bytes book (assigned book ranks) read
               (clearing-satisfies book limits ranks many (fit-the-bits book limits ranks below) clears),
         )
+
+usual-accepted : UsualAnswersAreAccepted
+unfolding UsualAnswersAreAccepted rankBitsOf RankBitsClear
+usual-accepted bytes book α room read found fits =
+    let ranks : List ℕ = ranksOf (symbols book) (rankBits (symbols book)) α in
+    let clear : ranksClear book ranks ≡ given tt =
+    ranks-clear-exactly book ranks .1 (length-ranksOf (symbols book) (rankBits (symbols book)) α, rank-bits-clear bytes book α read found) in
+    usual-ranks book α room clear fits bytes read
+
+-- Ranks that are accepted clear the book.
+pub accepted-clear :
+    (bytes : Bytes) (book : Book) (text : Bytes) (room : ℕ) (ranks : List ℕ) → readBook bytes ≡ given book → ranksFromAnswer bytes text room ≡ given ranks →
+    (length ranks ≡ symbols book) × Clears (Above ranks) (book .rules)
+accepted-clear bytes book text room ranks read e = accepted-exactly bytes book ranks read .0 (answers-are-checked bytes text room ranks e)
+
+accepted-answer-exactly : AcceptedAnswerExactlyIfCleared
+unfolding AcceptedAnswerExactlyIfCleared SatisfiableExactlyIfCleared UsualAnswersAreAccepted
+accepted-answer-exactly bytes book room read fits = (cleared, found)
+  where
+    cleared : AcceptedAnswer bytes room → SomePrecedenceClears book
+    cleared a = ranks-precede book (a .ranks) (accepted-clear bytes book (a .text) room (a .ranks) read (a .accepted) .1)
+
+    found : SomePrecedenceClears book → AcceptedAnswer bytes room
+    found p =
+        let (α, satisfies) = satisfiable-exactly bytes book read .1 p in
+        record {
+          text = usualAnswer («V» book) α;
+          isBytes = λ b m. every-member (λ n. n < 256) m (usual-bytes («V» book) α);
+          ranks = rankBitsOf book α;
+          accepted = usual-accepted bytes book α room read satisfies fits;
+        }
 
 run-yields-both : RunYields
 unfolding RunYields
@@ -138,6 +177,8 @@ demand2 =
       onlyOnce = extend-only-once;
       accepted = accepted-exactly;
       answers = answers-are-checked;
+      usualAnswers = usual-accepted;
+      acceptedAnswer = accepted-answer-exactly;
       runs = run-yields-both;
       ownSteps = own-step-is-free;
     }

@@ -8,3 +8,4 @@ pub mod AsDefined
 pub mod Each
 pub mod Demand1InCode
 pub mod RunInCode
+pub mod AnswerInCode

@@ -19,6 +19,7 @@ use Rattle.clauses.specs.Blocks.{«V»}
 use Rattle.clauses.specs.File.{clauseProgram}
 use Rattle.clauses.specs.Dimacs.{readDimacs}
 use Rattle.answer.specs.Ranks.{ranksFromAnswer}
+use Rattle.answer.specs.Usual.{usualAnswer}
 use Rattle.rewriting.specs.Step.{Step, stepOf, OwnSteps}
 use Rattle.rewriting.specs.Run.{Ran, Means, run}
 use Rattle.demands.specs.EntryPoints.{Bytes}
@@ -77,6 +78,25 @@ unfoldable pub AnswersAreChecked : Type 0
 AnswersAreChecked =
     (bytes text : Bytes) (room : ℕ) (ranks : List ℕ) → ranksFromAnswer bytes text room ≡ given ranks → checkRanks bytes ranks ≡ given tt
 
+-- The answer of a solver that prints a satisfying assignment, in the solvers' usual form, is accepted, and its ranks are the rank bits. The
+-- lent buffer has a byte for each symbol.
+unfoldable pub UsualAnswersAreAccepted : Type 0
+UsualAnswersAreAccepted =
+    (bytes : Bytes) (book : Book) (α : Assignment) (room : ℕ) → readBook bytes ≡ given book → SatisfyingAssignment (clauseProgram bytes) α →
+    symbols book ≤ room → ranksFromAnswer bytes (usualAnswer («V» book) α) room ≡ given (rankBitsOf book α)
+
+-- So a book has an accepted answer, a text of bytes, exactly if some strict precedence clears it.
+pub record AcceptedAnswer (bytes : Bytes) (room : ℕ) : Type 0 where
+  pub text : Bytes
+  pub isBytes : (b : ℕ) → List·Memᴰ b text → b < 256
+  pub ranks : List ℕ
+  pub accepted : ranksFromAnswer bytes text room ≡ given ranks
+
+unfoldable pub AcceptedAnswerExactlyIfCleared : Type 1
+AcceptedAnswerExactlyIfCleared =
+    (bytes : Bytes) (book : Book) (room : ℕ) → readBook bytes ≡ given book → symbols book ≤ room →
+    AcceptedAnswer bytes room ↔ SomePrecedenceClears book
+
 -- "A run yields the term and the step count of document 01's rewriting rules": as many of its own steps lead from the record to the term,
 -- and the outcome is the one that the term reached has.
 unfoldable pub RunYields : Type 0
@@ -98,5 +118,7 @@ pub record Demand2 : Type 1 where
   pub onlyOnce : ExtendOnlyOnce
   pub accepted : AcceptedExactlyIfDecreasing
   pub answers : AnswersAreChecked
+  pub usualAnswers : UsualAnswersAreAccepted
+  pub acceptedAnswer : AcceptedAnswerExactlyIfCleared
   pub runs : RunYields
   pub ownSteps : OwnStepIsFree
