@@ -1,0 +1,5 @@
+pub mod Unreadable
+pub mod RunTold
+pub mod BlockCount
+pub mod BookTold
+pub mod Settled

@@ -1,0 +1,52 @@
+-- `rulebook_read_book` meets its contract: a refusal is told by its number and place, and of a book that was read the counts are those of the
+-- book that stands at its places. Assumes nothing.
+use mathlib.Core.Path.{_∙_}
+use borrow.Author.Needs.{needs}
+use Rattle.answer.proofs.ReadBooks.{read-from, was-read}
+use Rattle.rulebook.proofs.BookTold.{book-not-read, book-was-read}
+use Rattle.rulebook.proofs.rulebook_read_book.Statement.{statement}
+use Rattle.rulebook.proofs.rulebook_read_book.Tie as tie
+
+read-book-requires : tie.Need-read-book-requires
+read-book-requires c κs = search needs
+
+enum-told : tie.Need-enum-told
+enum-told c = search needs
+
+of-book-requires : tie.Need-of-book-requires
+of-book-requires c κs = search needs
+
+no-book-requires : tie.Need-no-book-requires
+no-book-requires c κs = search needs
+
+returns : tie.Need-returns
+returns c =
+    let start = c .before .before .before .before .before in
+    let read = c .before .before .before .read-book in
+    c .no-book .ensures ∙ book-not-read (start .args .book .now) (read .result) _ (read .ensures .1) (c .before .before .match .keys2) (c .before .of-book .ensures)
+
+count-blocks-requires : tie.Need-count-blocks-requires
+count-blocks-requires c κs =
+    let start = c .before .before .before .before .before in
+    let read = c .before .before .before .read-book in
+    was-read (start .args .book .now) (read .result) (read .ensures .0) (c .before .enum-told .given .1)
+
+returns-2 : tie.Need-returns-2
+returns-2 c =
+    let start = c .before .before .before .before .before .before in
+    let read = c .before .before .before .before .read-book in
+    let bytes = start .args .book .now in
+    let from = read-from bytes (read .result) (read .ensures .0) (c .before .before .enum-told .given .1) in
+    book-was-read from (c .count-blocks .result) (c .count-blocks .ensures bytes from)
+
+pub rulebook-read-book-spec : {M : Type 1} → statement M
+rulebook-read-book-spec =
+    tie.close
+    (tie.spec
+    read-book-requires
+    enum-told
+    of-book-requires
+    no-book-requires
+    returns
+    count-blocks-requires
+    returns-2)

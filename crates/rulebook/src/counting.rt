@@ -1,0 +1,25 @@
+// How many blocks the clause file of a read book has.
+use book::Book;
+ghost use Prim.Native.Nat.{ℕ};
+ghost use mathlib.Core.List.{List};
+ghost use mathlib.Core.Path.{_≡_};
+ghost use lib.ListN.{length};
+ghost use Rattle.book.specs.Meaning.{bookAt};
+ghost use Rattle.clauses.specs.File.{fileBlocks};
+ghost use Rattle.clauses.specs.Read.{ReadFrom, WasRead};
+
+// "Blocks are numbered from 0": the header, "a block for each ordered pair f ≠ g", and for each rule a block and "a block for each (u,v)".
+pub fn count_blocks(places: Book) -> usize
+    requires { ⌜ WasRead places ⌝ }
+    ensures { λ r. ⌜ ((bytes : List ℕ) → ReadFrom bytes places → r ≡ length (fileBlocks (bookAt bytes places))) ⌝ }
+{
+    let symbols = places.symbols;
+    let rules = places.rules;
+    let mut blocks = 1 + symbols * symbols - symbols;
+    let mut rule = 0;
+    while rule < rules {
+        blocks += 1 + places.left_nodes[rule] * places.right_nodes[rule];
+        rule += 1;
+    }
+    blocks
+}
