@@ -1,17 +1,18 @@
-// The examples of document 01 that are run, and its edges: a row a case, its bytes in hexadecimal and the reply. The file `stdout` was
-// written by hand from document 01.
-mod books;
-mod records;
+// The examples of document 01 that are run, and its edges. The rows stand in the file `stdin`; the file `stdout` shows each with its reply
+// and was written by hand from document 01.
+mod lent;
+mod ranking;
+mod reading;
+mod rows;
+mod running;
 mod show;
+mod words;
+
+use libc::STDIN_FILENO;
 
 fn main() {
-    books::examples();
-    books::refusal_1();
-    books::refusal_2();
-    books::refusal_3();
-    books::refusal_4();
-    books::refusal_5();
-    books::refusal_6();
-    records::refusal_11();
-    records::sizes();
+    let mut rows = io::large_buffer();
+    let n = io::read_full(STDIN_FILENO, &mut rows);
+    let mut book = io::buffer();
+    rows::show_all(&rows[..n], &mut book);
 }

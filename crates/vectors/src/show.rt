@@ -1,4 +1,4 @@
-// A row's parts, on standard output.
+// A reply's parts, on standard output.
 use book::BookVerdict;
 use libc::STDOUT_FILENO;
 
@@ -32,7 +32,6 @@ pub fn refused(refusal: u64, place: usize) {
     number(refusal);
     text(b" at ");
     number(place as u64);
-    text(b"\n");
 }
 
 // Why a book cannot be read; nothing for a readable one.
