@@ -1,7 +1,6 @@
 -- An answer in the solvers' usual form is made of bytes: letters, spaces, minus signs, newlines and digits. Assumes nothing.
 use Prim.Native.Nat.{ℕ, _<_}
-use mathlib.Core.Bool.{Bool, true, false}
-use mathlib.Core.List.{List, [], _∷_, _++_, map, flatMap}
+use mathlib.Core.List.{List, [], _∷_, map, flatMap}
 use native.Mathlib.Omega.{arith}
 use Rattle.reply.specs.Decimal.{decimal}
 use Rattle.reply.specs.Text.{ascii}

@@ -2,9 +2,9 @@
 -- Assumes nothing.
 use Prim.Native.Nat.{ℕ, _≤_, _<_}
 use mathlib.Core.List.{List}
-use mathlib.Core.Path.{_≡_, refl, sym, ap, _∙_}
+use mathlib.Core.Path.{_≡_, sym, ap, _∙_}
 use lib.ListN.{length}
-use Rattle.reply.specs.Reply.{Reply, Attempt, given, _>>=_}
+use Rattle.reply.specs.Reply.{Reply, given, _>>=_}
 use Rattle.reply.specs.Lent.{laid}
 use Rattle.reply.proofs.Given.{bind-given}
 use Rattle.reply.proofs.Every.{every-member}
@@ -19,7 +19,7 @@ use Rattle.answer.specs.Usual.{usualAnswer}
 use Rattle.answer.proofs.Checked.{length-ranksOf}
 use Rattle.answer.proofs.UsualBytes.{usual-bytes}
 use Rattle.demands.specs.EntryPoints.{Bytes, answer, bufferAfter, ranksOfAnAnswer}
-use Rattle.demands.specs.Demand2.{SatisfyingAssignment, SomePrecedenceClears, rankBitsOf, SatisfiableExactlyIfCleared, UsualAnswersAreAccepted}
+use Rattle.demands.specs.Demand2.{SatisfyingAssignment, rankBitsOf, SatisfiableExactlyIfCleared, UsualAnswersAreAccepted}
 use Rattle.demands.specs.InCode.{InCode, AsDefined}
 use Rattle.demands.specs.AnswerInCode.{RanksLaid, AnswersInCode}
 use Rattle.demands.proofs.Demand2.{demand2, accepted-clear, ranks-precede}

@@ -2,13 +2,13 @@
 use mathlib.Core.List.{[]}
 use mathlib.Core.Path.{_≡_, refl, ap, _∙_}
 use lib.ListN.{length}
-use Rattle.reply.specs.Reply.{Reply, Attempt, given, refused, _>>=_}
+use Rattle.reply.specs.Reply.{Reply, given, refused, _>>=_}
 use Rattle.reply.specs.Lent.{laid}
 use Rattle.answer.specs.Answered.{counted}
 use Rattle.rewriting.specs.Run.{ranBytes}
 use Rattle.rewriting.specs.RunMeaning.{runTold}
-use Rattle.demands.specs.EntryPoints.{Bytes, answer, bufferAfter, readingABook, checkingRanks, ranksOfAnAnswer, aRun, anArgument}
-use Rattle.demands.specs.InCode.{InCode, AsDefined}
+use Rattle.demands.specs.EntryPoints.{Bytes, answer, bufferAfter}
+use Rattle.demands.specs.InCode.{AsDefined}
 use Rattle.demands.proofs.Functions.{readBookInCode, checkRanksInCode, ranksFromAnswerInCode, runInCode, argumentInCode}
 
 module _ {A : Type 0} where

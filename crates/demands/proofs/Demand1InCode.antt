@@ -3,7 +3,7 @@
 use Prim.Native.Nat.{ℕ}
 use mathlib.Core.List.{List}
 use mathlib.Core.Path.{_≡_, sym, subst, _∙_}
-use Rattle.reply.specs.Reply.{Refusal, Reply, Attempt, given, refused, _>>=_}
+use Rattle.reply.specs.Reply.{Refusal, Reply, given, refused, _>>=_}
 use Rattle.reply.proofs.Given.{given-not-refused}
 use Rattle.demands.specs.EntryPoints.{EntryPoint, answer}
 use Rattle.demands.specs.Demand1.{ResultOrRefusal, Demanded}

@@ -7,7 +7,7 @@ use borrow.Fn.Kinds.{PK, RK, Dens, resT, In, Out, endedOf}
 use denote.Ref.{now}
 use denote.Triple.Clauses.{AtExit}
 use lib.ListN.{length}
-use Rattle.reply.specs.Reply.{Reply, Attempt}
+use Rattle.reply.specs.Reply.{Reply}
 use Rattle.book.specs.Meaning.{meaning}
 use Rattle.order.specs.Meaning.{ranksMeaning}
 use Rattle.answer.specs.Answered.{answeredMeaning}

@@ -9,3 +9,5 @@ pub mod Each
 pub mod Demand1InCode
 pub mod RunInCode
 pub mod AnswerInCode
+pub mod BudgetsAdd
+pub mod BudgetsAddInCode

@@ -1,9 +1,8 @@
 -- Demands 2 and 3 of the running code's `run`: what the definition of a run keeps to, every call that its contract allows keeps to.
 -- Assumes nothing.
-use Prim.Native.Nat.{ℕ, _≤_}
-use mathlib.Core.Logic.{_⊎_}
+use Prim.Native.Nat.{ℕ}
 use mathlib.Core.Path.{_≡_, refl, sym, ap, subst, _∙_}
-use Rattle.reply.specs.Reply.{Reply, Attempt, given, _>>=_}
+use Rattle.reply.specs.Reply.{Reply, given, _>>=_}
 use Rattle.reply.specs.Lent.{laid}
 use Rattle.reply.proofs.Given.{bind-given}
 use Rattle.term.specs.Term.{Term}

@@ -1,7 +1,7 @@
 -- An entry point as the code has it, by the contract of its function: what is promised of every call, whoever makes it.
 use mathlib.Core.List.{List, List·Memᴰ}
 use mathlib.Core.Path.{_≡_}
-use Rattle.reply.specs.Reply.{Refusal, Reply, Attempt, refused}
+use Rattle.reply.specs.Reply.{Refusal, Reply, refused}
 use Rattle.demands.specs.EntryPoints.{Bytes, EntryPoint, answer, bufferAfter}
 use Rattle.demands.specs.Demand1.{ResultOrRefusal}
 

@@ -5,5 +5,6 @@ pub mod Demand2
 pub mod AnswerInCode
 pub mod Demand3
 pub mod RunInCode
+pub mod BudgetsAdd
 pub mod Claims
 pub mod Cases

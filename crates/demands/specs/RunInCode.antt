@@ -1,8 +1,8 @@
 -- Demands 2 and 3 of the running code's `run`, said of every call that its contract allows.
-use Prim.Native.Nat.{ℕ, _+_, _≤_}
+use Prim.Native.Nat.{ℕ, _≤_}
 use mathlib.Core.Logic.{_⊎_}
 use mathlib.Core.Path.{_≡_}
-use lib.ListN.{length, take}
+use lib.ListN.{length}
 use Rattle.reply.specs.Reply.{given}
 use Rattle.reply.specs.Lent.{laid}
 use Rattle.term.specs.Term.{Term}
@@ -12,7 +12,7 @@ use Rattle.book.specs.Reading.{readBook}
 use Rattle.book.specs.Record.{readRecord}
 use Rattle.order.specs.Clearing.{checkRanks}
 use Rattle.rewriting.specs.Step.{OwnSteps}
-use Rattle.rewriting.specs.Run.{Outcome, done, spent, tooLarge, Means}
+use Rattle.rewriting.specs.Run.{done, tooLarge, Means}
 use Rattle.rewriting.specs.RunMeaning.{Told}
 use Rattle.demands.specs.EntryPoints.{Bytes, aRun}
 use Rattle.demands.specs.InCode.{InCode}

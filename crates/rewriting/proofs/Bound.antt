@@ -23,7 +23,7 @@ module _
     {_≻_ : Term → Term → Type 0} (order : ReductionOrder _≻_) {rules : List Rule}
     (decrease : (rule : Rule) → List·Memᴰ rule rules → _≻_ (rule .left) (rule .right)) where
   mutual
-    step-goes-down : {s t : Term} → Step rules s t → _≻_ s t
+    pub step-goes-down : {s t : Term} → Step rules s t → _≻_ s t
     step-goes-down (atRoot rule σ m p q) = subst₂ _≻_ p q (order .keptUnderReplacement σ (rule .left) (rule .right) (decrease rule m))
     step-goes-down (inside {f = f} {ss = ss} {ts = ts} st) = order .keptInContexts f ss ts (step-goes-down-inside st)
 

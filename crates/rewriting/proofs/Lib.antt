@@ -21,3 +21,5 @@ pub mod TakingTurns
 pub mod RecordRuns
 pub mod RanOn
 pub mod Settled
+pub mod RecordBack
+pub mod StaysARecord

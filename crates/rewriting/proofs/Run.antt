@@ -42,17 +42,17 @@ module _ (rules : List Rule) (made : ℕ) (t : Term) where
   run-goes-on budget t′ p q = rw (p, runFrom, q)
 
 -- A law of runs, as the answer shows it, in each of the four.
-record RunCases (rules : List Rule) (P : (budget made : ℕ) → Term → Ran → Type 0) : Type 0 where
-  isDone : (budget made : ℕ) (t : Term) → stepOf rules t ≡ none → P budget made t (ended done made t)
-  isSpent : (made : ℕ) (t t′ : Term) → stepOf rules t ≡ some t′ → P zero made t (ended spent made t)
-  isTooLarge :
+pub record RunCases (rules : List Rule) (P : (budget made : ℕ) → Term → Ran → Type 0) : Type 0 where
+  pub isDone : (budget made : ℕ) (t : Term) → stepOf rules t ≡ none → P budget made t (ended done made t)
+  pub isSpent : (made : ℕ) (t t′ : Term) → stepOf rules t ≡ some t′ → P zero made t (ended spent made t)
+  pub isTooLarge :
       (budget made : ℕ) (t t′ : Term) → stepOf rules t ≡ some t′ → leb (size t′) 256 ≡ false → P (suc budget) made t (ended tooLarge made t)
-  goesOn :
+  pub goesOn :
       (budget made : ℕ) (t t′ : Term) (ran : Ran) → stepOf rules t ≡ some t′ → leb (size t′) 256 ≡ true →
       P budget (suc made) t′ ran → P (suc budget) made t ran
 
 -- What holds in the four cases holds of every run.
-every-run :
+pub every-run :
     (rules : List Rule) (P : (budget made : ℕ) → Term → Ran → Type 0) → RunCases rules P →
     (budget made : ℕ) (t : Term) → P budget made t (runFrom rules budget made t)
 every-run rules P cases zero made t = go (stepOf rules t) refl
