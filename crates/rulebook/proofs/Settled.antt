@@ -14,6 +14,8 @@ use Rattle.rulebook.proofs.rulebook_read_book.Kinds as read-book-kinds
 use Rattle.rulebook.proofs.rulebook_read_book.Reads as read-book
 use Rattle.rulebook.proofs.rulebook_check_ranks.Kinds as check-ranks-kinds
 use Rattle.rulebook.proofs.rulebook_check_ranks.Reads as check-ranks
+use Rattle.rulebook.proofs.rulebook_write_block.Kinds as write-block-kinds
+use Rattle.rulebook.proofs.rulebook_write_block.Reads as write-block
 use Rattle.rulebook.proofs.rulebook_ranks_from_answer.Kinds as ranks-from-answer-kinds
 use Rattle.rulebook.proofs.rulebook_ranks_from_answer.Reads as ranks-from-answer
 use Rattle.rulebook.proofs.rulebook_run.Kinds as run-kinds
@@ -30,6 +32,11 @@ pub check-ranks-settled :
     (κs : Lfts 2) (a : Dens κs check-ranks-kinds.ps) (r r′ : Verdict) (e e′ : AtExit (endedOf 2 check-ranks-kinds.ps check-ranks-kinds.r) κs) →
     check-ranks.Post κs a r e → check-ranks.Post κs a r′ e′ → r ≡ r′
 check-ranks-settled κs a r r′ e e′ p p′ = p ∙ sym p′
+
+pub write-block-settled :
+    (κs : Lfts 2) (a : Dens κs write-block-kinds.ps) (r r′ : WrittenReply) (e e′ : AtExit (endedOf 2 write-block-kinds.ps write-block-kinds.r) κs) →
+    write-block.Post κs a r e → write-block.Post κs a r′ e′ → (r ≡ r′) × (now (e .1 .1 .0) ≡ now (e′ .1 .1 .0))
+write-block-settled κs a r r′ e e′ p p′ = (p .0 ∙ sym (p′ .0), p .1 ∙ sym (p′ .1))
 
 pub ranks-from-answer-settled :
     (κs : Lfts 3) (a : Dens κs ranks-from-answer-kinds.ps) (r r′ : WrittenReply) (e e′ : AtExit (endedOf 3 ranks-from-answer-kinds.ps ranks-from-answer-kinds.r) κs) →

@@ -1,7 +1,9 @@
 -- A book that cannot be read is refused by its verdict's number and place, whatever was asked of it. Assumes nothing.
+use Prim.Native.Nat.{ℕ}
 use mathlib.Core.List.{[]}
-use mathlib.Core.Path.{_≡_, refl, sym, ap, _∙_}
-use Rattle.reply.specs.Reply.{Reply, refused, given, _>>_, _>>=_, _at_}
+use mathlib.Core.Path.{_≡_, refl, sym}
+use Rattle.reply.specs.Reply.{Refusal, Reply, given, refused, _>>=_, _>>_, _at_}
+use Rattle.book.specs.Book.{Book}
 use Rattle.book.specs.Meaning.{told}
 use Rattle.book.specs.declared.BookVerdict.{BookVerdict}
 use Rattle.book.specs.declared.BookVerdict.the-variants.{Readable, Ended, UnknownKind, NotAllowed, BadBody, TooMany, AfterEnd}
@@ -14,29 +16,27 @@ use Rattle.rulebook.specs.declared.replies.Verdict.{Verdict}
 abbrev pub refusedFor : {A : Type 0} → Verdict → Reply A
 refusedFor reason = refused (reason .refusal at reason .place)
 
-pub unreadable-refused : {A : Type 0} (verdict : BookVerdict) → refusedFor {A = A} (verdictReply (unreadable verdict)) ≡ unreadable verdict
-unfolding unreadable told _>>=_
-unreadable-refused Readable = refl
-unreadable-refused (Ended p) = refl
-unreadable-refused (UnknownKind p) = refl
-unreadable-refused (NotAllowed p) = refl
-unreadable-refused (BadBody p) = refl
-unreadable-refused (TooMany p) = refl
-unreadable-refused (AfterEnd p) = refl
+-- Each crate says it in words of its own, which keep a refusal, and make `0 at 0` of a readable book.
+module _
+    {A : Type 0} (words : Reply Book → Reply A) (keeps : (r : Refusal) → words (refused r) ≡ refused r)
+    (none : (book : Book) → words (given book) ≡ refused (0 at 0)) where
+  pub unreadable-in : (verdict : BookVerdict) → refusedFor (verdictReply (unreadable verdict)) ≡ words (told verdict (record { arities = []; rules = [] }))
+  unfolding unreadable told _>>=_
+  unreadable-in Readable = sym (none _)
+  unreadable-in (Ended p) = sym (keeps _)
+  unreadable-in (UnknownKind p) = sym (keeps _)
+  unreadable-in (NotAllowed p) = sym (keeps _)
+  unreadable-in (BadBody p) = sym (keeps _)
+  unreadable-in (TooMany p) = sym (keeps _)
+  unreadable-in (AfterEnd p) = sym (keeps _)
 
--- The rank check and the answer's reader say it in their own words.
-pub unreadable-only : (verdict : BookVerdict) → unreadable verdict ≡ refusalOnly (told verdict (record { arities = []; rules = [] }))
-unfolding unreadable told refusalOnly _>>=_
-unreadable-only Readable = refl
-unreadable-only (Ended p) = refl
-unreadable-only (UnknownKind p) = refl
-unreadable-only (NotAllowed p) = refl
-unreadable-only (BadBody p) = refl
-unreadable-only (TooMany p) = refl
-unreadable-only (AfterEnd p) = refl
+pub unreadable-refused : {A : Type 0} (verdict : BookVerdict) → refusedFor (verdictReply (unreadable verdict)) ≡ unreadable {A = A} verdict
+unfolding unreadable _>>=_
+unreadable-refused verdict = unreadable-in (λ reply. _>>=_ reply (λ book. refused (0 at 0))) (λ r. refl) (λ book. refl) verdict
 
-pub unreadable-then :
-    {A : Type 0} (verdict : BookVerdict) (next : Reply A) →
-    refusedFor (verdictReply (unreadable verdict)) ≡ _>>_ (refusalOnly (told verdict (record { arities = []; rules = [] }))) next
-unfolding _>>_
-unreadable-then verdict next = ap (λ (x : Reply (Unit {0})). _>>_ x next) (unreadable-refused verdict ∙ unreadable-only verdict)
+-- Where nothing was written.
+pub unreadable-written :
+    (verdict : BookVerdict) →
+    refusedFor {A = ℕ} (verdictReply (unreadable verdict)) ≡ _>>_ (refusalOnly (told verdict (record { arities = []; rules = [] }))) (given 0)
+unfolding refusalOnly _>>_
+unreadable-written verdict = unreadable-in (λ reply. _>>_ (refusalOnly reply) (given 0)) (λ r. refl) (λ book. refl) verdict

@@ -12,6 +12,7 @@ pub use replies::WrittenReply;
 use replies::no_book;
 use replies::of_answer;
 use replies::of_argument;
+use replies::of_block;
 use replies::of_book;
 use replies::of_ranks;
 use replies::of_run;
@@ -20,6 +21,8 @@ ghost use lib.ListN.{length};
 ghost use Rattle.reply.specs.Lent.{laid};
 ghost use Rattle.book.specs.Reading.{readBook};
 ghost use Rattle.order.specs.Clearing.{checkRanks};
+ghost use Rattle.clauses.specs.File.{block};
+ghost use Rattle.clauses.specs.Written.{lengthOf};
 ghost use Rattle.answer.specs.Ranks.{ranksFromAnswer};
 ghost use Rattle.answer.specs.Answered.{counted};
 ghost use Rattle.rewriting.specs.Run.{run, ranBytes};
@@ -53,6 +56,15 @@ pub extern "C" fn rulebook_check_ranks(book: &[u8], ranks: &[u8]) -> Verdict
     ensures { λ r. ⌜ r ≡ verdictReply (checkRanks (now (book .entry)) (now (ranks .entry))) ⌝ }
 {
     of_ranks(order::check_ranks(book, ranks))
+}
+
+// Writes one block of the clause file.
+#[no_mangle]
+pub extern "C" fn rulebook_write_block(book: &[u8], number: u64, out: &mut [u8]) -> WrittenReply
+    ensures replies { λ r. ⌜ r ≡ writtenReply (lengthOf (block (now (book .entry)) number (length (now (out .entry))))) ⌝ }
+    ensures lays { λ _. ⌜ now (out .exit) ≡ laid (block (now (book .entry)) number (length (now (out .entry)))) (now (out .entry)) ⌝ }
+{
+    of_block(clauses::write_block(book, number, out))
 }
 
 // Reads a solver's answer and writes its ranks, if they make every rule decrease.

@@ -1,6 +1,7 @@
 // Replies as C reads them: refusal 0 if the input was taken, else document 01's number and place, and then every other field is 0.
 use answer::Answered;
 use book::BookVerdict;
+use clauses::Written;
 use order::RanksVerdict;
 use rewriting::asking::ArgumentReply;
 use rewriting::running::Outcome;
@@ -8,6 +9,7 @@ use rewriting::running::RunReply;
 ghost use mathlib.Core.Path.{_≡_};
 ghost use Rattle.reply.specs.Reply.{given, refused, _at_};
 ghost use Rattle.order.specs.Meaning.{ranksMeaning};
+ghost use Rattle.clauses.specs.Written.{writtenMeaning};
 ghost use Rattle.answer.specs.Answered.{answeredMeaning};
 ghost use Rattle.rewriting.specs.Asked.{unreadable, argumentMeaning};
 ghost use Rattle.rewriting.specs.RunMeaning.{runMeaning};
@@ -125,6 +127,18 @@ fn written(length: usize) -> WrittenReply
         refusal: 0,
         place: 0,
         length: length as u64,
+    }
+}
+
+// "block 10, 9".
+pub fn of_block(block: Written) -> WrittenReply
+    ensures { λ r. ⌜ r ≡ writtenReply (writtenMeaning block) ⌝ }
+{
+    match block {
+        Written::Laid(length) => written(length),
+        Written::Unreadable(book) => not_written(of_book(book)),
+        Written::NoBlock => not_written(refuse(10, 0)),
+        Written::ShortBuffer => not_written(refuse(9, 0)),
     }
 }
 

@@ -1,13 +1,12 @@
 -- `replies::of_answer` meets its contract, case by case. Assumes nothing.
 use mathlib.Core.Path.{sym, ap, _∙_}
 use borrow.Author.Needs.{needs}
-use Rattle.reply.specs.Reply.{given}
 use Rattle.answer.specs.Answered.{answeredMeaning}
 use Rattle.answer.specs.declared.Answered.{Answered}
 use Rattle.rulebook.specs.Replies.{writtenReply}
 use Rattle.rulebook.specs.declared.replies.Verdict.{Verdict}
 use Rattle.rulebook.specs.declared.replies.WrittenReply.{WrittenReply}
-use Rattle.rulebook.proofs.Unreadable.{refusedFor, unreadable-then}
+use Rattle.rulebook.proofs.Unreadable.{refusedFor, unreadable-written}
 use Rattle.rulebook.proofs.replies.of_answer.Statement.{statement}
 use Rattle.rulebook.proofs.replies.of_answer.Tie as tie
 
@@ -83,7 +82,7 @@ returns c = c .written .ensures ∙ ap means (sym (c .before .before .answer .gi
 
 returns-2 : tie.Need-returns-2
 unfolding answeredMeaning
-returns-2 c = c .not-written .ensures ∙ ap for (c .before .of-book .ensures) ∙ ap writtenReply (unreadable-then _ (given 0)) ∙ ap means (sym (c .before .before .before .answer2 .given .1))
+returns-2 c = c .not-written .ensures ∙ ap for (c .before .of-book .ensures) ∙ ap writtenReply (unreadable-written _) ∙ ap means (sym (c .before .before .before .answer2 .given .1))
 
 returns-3 : tie.Need-returns-3
 unfolding answeredMeaning

@@ -1,11 +1,11 @@
 -- `replies::of_ranks` meets its contract, case by case. Assumes nothing.
-use mathlib.Core.Path.{sym, ap, _∙_}
+use mathlib.Core.Path.{refl, sym, ap, _∙_}
 use borrow.Author.Needs.{needs}
-use Rattle.order.specs.Meaning.{ranksMeaning}
+use Rattle.order.specs.Meaning.{refusalOnly, ranksMeaning}
 use Rattle.order.specs.declared.RanksVerdict.{RanksVerdict}
 use Rattle.rulebook.specs.Replies.{verdictReply}
 use Rattle.rulebook.specs.declared.replies.Verdict.{Verdict}
-use Rattle.rulebook.proofs.Unreadable.{unreadable-only}
+use Rattle.rulebook.proofs.Unreadable.{unreadable-in}
 use Rattle.rulebook.proofs.replies.of_ranks.Statement.{statement}
 use Rattle.rulebook.proofs.replies.of_ranks.Tie as tie
 
@@ -38,8 +38,8 @@ unfolding ranksMeaning
 returns c = ap means (sym (c .enum-told .given .1))
 
 returns-2 : tie.Need-returns-2
-unfolding ranksMeaning
-returns-2 c = c .of-book .ensures ∙ ap verdictReply (unreadable-only _) ∙ ap means (sym (c .before .before .verdict .given .1))
+unfolding ranksMeaning refusalOnly
+returns-2 c = c .of-book .ensures ∙ ap verdictReply (unreadable-in refusalOnly (λ r. refl) (λ book. refl) _) ∙ ap means (sym (c .before .before .verdict .given .1))
 
 returns-3 : tie.Need-returns-3
 unfolding ranksMeaning
