@@ -4,12 +4,13 @@ use mathlib.Core.Path.{_≡_, refl, ap, _∙_}
 use lib.ListN.{length}
 use Rattle.reply.specs.Reply.{Reply, given, refused, _>>=_}
 use Rattle.reply.specs.Lent.{laid}
+use Rattle.clauses.specs.Written.{lengthOf}
 use Rattle.answer.specs.Answered.{counted}
 use Rattle.rewriting.specs.Run.{ranBytes}
 use Rattle.rewriting.specs.RunMeaning.{runTold}
 use Rattle.demands.specs.EntryPoints.{Bytes, answer, bufferAfter}
 use Rattle.demands.specs.InCode.{AsDefined}
-use Rattle.demands.proofs.Functions.{readBookInCode, checkRanksInCode, ranksFromAnswerInCode, runInCode, argumentInCode}
+use Rattle.demands.proofs.Functions.{readBookInCode, writeBlockInCode, checkRanksInCode, ranksFromAnswerInCode, runInCode, argumentInCode}
 
 module _ {A : Type 0} where
   -- A reply whose result is told as it is, and one of which nothing is written.
@@ -27,16 +28,28 @@ module _ {A : Type 0} where
 itself-written : (reply : Reply Bytes) (buffer : Bytes) → laid reply buffer ≡ laid (_>>=_ reply (λ bytes. given bytes)) buffer
 itself-written reply buffer = ap (λ (x : Reply Bytes). laid x buffer) (itself reply)
 
-its-length : (reply : Reply Bytes) → counted reply ≡ _>>=_ reply (λ bytes. given (length bytes))
+ranks-counted : (reply : Reply Bytes) → counted reply ≡ _>>=_ reply (λ bytes. given (length bytes))
 unfolding counted _>>=_
-its-length (given bytes) = refl
-its-length (refused r) = refl
+ranks-counted (given bytes) = refl
+ranks-counted (refused r) = refl
+
+block-counted : (reply : Reply Bytes) → lengthOf reply ≡ _>>=_ reply (λ bytes. given (length bytes))
+unfolding lengthOf _>>=_
+block-counted (given bytes) = refl
+block-counted (refused r) = refl
 
 pub read-book-as-defined : AsDefined readBookInCode
 unfolding readBookInCode answer bufferAfter
 read-book-as-defined = record {
   answers = λ call. call .ensured .1 ∙ itself _;
   writes = λ call. nothing-written _;
+}
+
+pub write-block-as-defined : AsDefined writeBlockInCode
+unfolding writeBlockInCode answer bufferAfter
+write-block-as-defined = record {
+  answers = λ call. call .ensured .0 ∙ block-counted _;
+  writes = λ call. call .ensured .1 ∙ itself-written _ _;
 }
 
 pub check-ranks-as-defined : AsDefined checkRanksInCode
@@ -49,7 +62,7 @@ check-ranks-as-defined = record {
 pub ranks-from-answer-as-defined : AsDefined ranksFromAnswerInCode
 unfolding ranksFromAnswerInCode answer bufferAfter
 ranks-from-answer-as-defined = record {
-  answers = λ call. call .ensured .0 ∙ its-length _;
+  answers = λ call. call .ensured .0 ∙ ranks-counted _;
   writes = λ call. call .ensured .1 ∙ itself-written _ _;
 }
 

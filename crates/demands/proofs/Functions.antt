@@ -10,11 +10,14 @@ use lib.ListN.{length}
 use Rattle.reply.specs.Reply.{Reply}
 use Rattle.book.specs.Meaning.{meaning}
 use Rattle.order.specs.Meaning.{ranksMeaning}
+use Rattle.clauses.specs.Written.{writtenMeaning}
 use Rattle.answer.specs.Answered.{answeredMeaning}
 use Rattle.rewriting.specs.Asked.{argumentMeaning}
 use Rattle.rewriting.specs.RunMeaning.{runMeaning}
 use Rattle.book.proofs.read_book.Kinds as read-book-kinds
 use Rattle.book.proofs.read_book.Reads as read-book
+use Rattle.clauses.proofs.write_block.Kinds as write-block-kinds
+use Rattle.clauses.proofs.write_block.Reads as write-block
 use Rattle.order.proofs.check_ranks.Kinds as check-ranks-kinds
 use Rattle.order.proofs.check_ranks.Reads as check-ranks
 use Rattle.answer.proofs.ranks_from_answer.Kinds as ranks-from-answer-kinds
@@ -23,7 +26,7 @@ use Rattle.rewriting.proofs.running.run.Kinds as run-kinds
 use Rattle.rewriting.proofs.running.run.Reads as run
 use Rattle.rewriting.proofs.asking.argument_reply.Kinds as argument-reply-kinds
 use Rattle.rewriting.proofs.asking.argument_reply.Reads as argument-reply
-use Rattle.demands.specs.EntryPoints.{Bytes, EntryPoint, readingABook, checkingRanks, ranksOfAnAnswer, aRun, anArgument}
+use Rattle.demands.specs.EntryPoints.{Bytes, EntryPoint, readingABook, aBlock, checkingRanks, ranksOfAnAnswer, aRun, anArgument}
 use Rattle.demands.specs.InCode.{InCode, Function}
 
 -- A contract: of so many lifetimes, these parameters and this result, what it asks of the caller and what it promises.
@@ -54,6 +57,14 @@ readBookInCode =
     (λ call. call .arguments .0 .now)
     (λ call. meaning (call .arguments .0 .now) (call .result))
     (λ call. []) (λ call. [])
+
+unfoldable pub writeBlockInCode : InCode aBlock
+writeBlockInCode =
+    byContract write-block-kinds.ps write-block-kinds.r write-block.Pre write-block.Post aBlock
+    (λ call. (call .arguments .0 .now, call .arguments .1 .0, length (call .arguments .1 .1 .0 .now)))
+    (λ call. writtenMeaning (call .result))
+    (λ call. call .arguments .1 .1 .0 .now)
+    (λ call. now (call .atExit .1 .1 .0))
 
 unfoldable pub checkRanksInCode : InCode checkingRanks
 checkRanksInCode =
@@ -92,6 +103,7 @@ argumentInCode =
 unfoldable pub functions : List Function
 functions =
     record { entry = readingABook; code = readBookInCode }
+    ∷ record { entry = aBlock; code = writeBlockInCode }
     ∷ record { entry = checkingRanks; code = checkRanksInCode }
     ∷ record { entry = ranksOfAnAnswer; code = ranksFromAnswerInCode }
     ∷ record { entry = aRun; code = runInCode }

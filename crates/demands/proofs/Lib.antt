@@ -11,3 +11,4 @@ pub mod RunInCode
 pub mod AnswerInCode
 pub mod BudgetsAdd
 pub mod BudgetsAddInCode
+pub mod FileInCode

@@ -1,8 +1,8 @@
 -- An entry point as the code has it, by the contract of its function: what is promised of every call, whoever makes it.
-use mathlib.Core.List.{List, List·Memᴰ}
+use mathlib.Core.List.{List, [], _∷_, List·Memᴰ}
 use mathlib.Core.Path.{_≡_}
 use Rattle.reply.specs.Reply.{Refusal, Reply, refused}
-use Rattle.demands.specs.EntryPoints.{Bytes, EntryPoint, answer, bufferAfter}
+use Rattle.demands.specs.EntryPoints.{Bytes, EntryPoint, answer, bufferAfter, entryPoints}
 use Rattle.demands.specs.Demand1.{ResultOrRefusal}
 
 -- What the contract of a function says. `Handed` is all that a caller can hand over, and `Required` what the contract asks of it. A call is
@@ -33,5 +33,11 @@ pub record Function : Type 1 where
   pub entry : EntryPoint
   pub code : InCode entry
 
-unfoldable pub Demand1InCode : List Function → Type 1
-Demand1InCode functions = (f : Function) → List·Memᴰ f functions → DemandedInCode (f .code)
+unfoldable pub entriesOf : List Function → List EntryPoint
+entriesOf [] = []
+entriesOf (f ∷ functions) = f .entry ∷ entriesOf functions
+
+-- Demand 1 of the code: each of the six entry points has its function, and each function meets it.
+pub record Demand1InCode (functions : List Function) : Type 1 where
+  pub complete : entriesOf functions ≡ entryPoints
+  pub demanded : (f : Function) → List·Memᴰ f functions → DemandedInCode (f .code)

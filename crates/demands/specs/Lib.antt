@@ -2,6 +2,7 @@ pub mod EntryPoints
 pub mod Demand1
 pub mod InCode
 pub mod Demand2
+pub mod FileInCode
 pub mod AnswerInCode
 pub mod Demand3
 pub mod RunInCode
