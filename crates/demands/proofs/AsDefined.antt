@@ -14,7 +14,7 @@ use Rattle.demands.proofs.Functions.{readBookInCode, writeBlockInCode, 
 
 module _ {A : Type 0} where
   -- A reply whose result is told as it is, and one of which nothing is written.
-  itself : (reply : Reply A) → reply ≡ _>>=_ reply (λ a. given a)
+  pub itself : (reply : Reply A) → reply ≡ _>>=_ reply (λ a. given a)
   unfolding _>>=_
   itself (given a) = refl
   itself (refused r) = refl

@@ -43,6 +43,12 @@ pub demand1-in-code : Demand1InCode functions
 unfolding entriesOf entryPoints functions readBookInCode writeBlockInCode checkRanksInCode ranksFromAnswerInCode runInCode argumentInCode
 demand1-in-code = record {
   complete = refl;
+  asDefined = λ f m.
+      each→ (λ (g : Function). AsDefined (g .code))
+      (also read-book-as-defined
+      (also write-block-as-defined
+      (also check-ranks-as-defined (also ranks-from-answer-as-defined (also run-as-defined (also argument-as-defined noMore))))))
+      m;
   demanded = λ f m.
       each→ (λ (g : Function). DemandedInCode (g .code))
       (also (demanded-in-code readBookInCode (λ handed. tt) read-book-as-defined book-demanded)

@@ -37,7 +37,8 @@ unfoldable pub entriesOf : List Function → List EntryPoint
 entriesOf [] = []
 entriesOf (f ∷ functions) = f .entry ∷ entriesOf functions
 
--- Demand 1 of the code: each of the six entry points has its function, and each function meets it.
+-- Demand 1 of the code: each of the six entry points has its function, which is as it is defined and meets the demand.
 pub record Demand1InCode (functions : List Function) : Type 1 where
   pub complete : entriesOf functions ≡ entryPoints
+  pub asDefined : (f : Function) → List·Memᴰ f functions → AsDefined (f .code)
   pub demanded : (f : Function) → List·Memᴰ f functions → DemandedInCode (f .code)

@@ -3,9 +3,11 @@ pub mod Demand1
 pub mod InCode
 pub mod Demand2
 pub mod FileInCode
+pub mod RanksInCode
 pub mod AnswerInCode
 pub mod Demand3
 pub mod RunInCode
 pub mod BudgetsAdd
+pub mod ArgumentInCode
 pub mod Claims
 pub mod Cases
