@@ -1,5 +1,5 @@
--- Budgets add up, of the definition of a run and of the running code: the record that a spent run leaves is read back to the term that it
--- reached, and from there the two runs are one. Assumes nothing.
+-- Budgets add up: the record of the term that a spent run reached is read back to that term, and from there the two runs are one. Assumes
+-- nothing.
 use Prim.Native.Nat.{ℕ, _+_, _≤_}
 use mathlib.Core.Path.{_≡_, refl, ap, subst, _∙_}
 use lib.Dec.{leb→le}
