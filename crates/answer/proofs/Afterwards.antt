@@ -9,7 +9,7 @@ use lib.ListN.{length, take, replicate}
 use lib.Seq.{take-at}
 use borrow.Author.Tests.{le-leb, lt-leb}
 use Rattle.reply.specs.Reply.{Refusal, Reply, given, refused, unless, _>>_, _>>=_, _at_}
-use Rattle.reply.specs.Lent.{laid}
+use Rattle.reply.specs.Lent.{laid, lengthOf}
 use Rattle.reply.proofs.Given.{given-bind}
 use Rattle.term.specs.Copied.{copied, overlaid}
 use Rattle.term.specs.Tables.{rankBits}
@@ -32,7 +32,7 @@ use Rattle.answer.specs.Lines.{readAnswer}
 use Rattle.answer.specs.Ranks.{valued, answered, ranksFromAnswer}
 use Rattle.answer.specs.Told.{tabled, assigned}
 use Rattle.answer.specs.RankTable.{rankTable}
-use Rattle.answer.specs.Answered.{answeredMeaning, counted, ranksChecked, acceptedAs, ranksIn}
+use Rattle.answer.specs.Answered.{answeredMeaning, ranksChecked, acceptedAs, ranksIn}
 use Rattle.answer.specs.declared.Answered.{Answered}
 use Rattle.answer.specs.declared.Answered.the-variants.{Accepted, Unreadable, TooLong, Malformed, NoModel, ShortBuffer, NotDecreasing}
 use Rattle.answer.specs.declared.lines.AnswerRead.{AnswerRead}
@@ -44,16 +44,16 @@ use Rattle.answer.proofs.RankSums.{padded-ranks}
 
 -- What the contract asks of an answer and of the lent buffer, for the reply x on paper.
 abbrev pub Allowed : Reply (List ℕ) → (buffer : List ℕ) → Answered → (after : List ℕ) → Type 0
-Allowed x buffer r after = (answeredMeaning r ≡ counted x) × (after ≡ laid x buffer)
+Allowed x buffer r after = (answeredMeaning r ≡ lengthOf x) × (after ≡ laid x buffer)
 
 allowed-refused : {x : Reply (List ℕ)} {q : Refusal} (buffer : List ℕ) (r : Answered) → x ≡ refused q → answeredMeaning r ≡ refused q → Allowed x buffer r buffer
-unfolding counted laid
+unfolding lengthOf laid
 allowed-refused buffer r e m = rw e (m, refl)
 
 allowed-given :
     {x : Reply (List ℕ)} {ranks : List ℕ} (buffer after : List ℕ) (n : ℕ) → x ≡ given ranks → n ≡ length ranks → after ≡ overlaid ranks buffer →
     Allowed x buffer (Accepted n) after
-unfolding counted laid answeredMeaning
+unfolding lengthOf laid answeredMeaning
 allowed-given buffer after n e count laid = rw e (ap (λ (m : ℕ). given m) count, laid)
 
 -- There are at most four bits to a symbol, and at most 64 rank variables.

@@ -28,11 +28,6 @@ answeredMeaning NoModel = refused (14 at 0)
 answeredMeaning ShortBuffer = refused (9 at 0)
 answeredMeaning (NotDecreasing rule) = refused (8 at rule)
 
--- A reply with ranks, and how many there are in their place.
-unfoldable pub counted : Reply (List ℕ) → Reply ℕ
-counted (given ranks) = given (length ranks)
-counted (refused r) = refused r
-
 -- "9, 8": the ranks of an assignment, once they are checked; `room` is the lent buffer's length.
 unfoldable pub ranksChecked : Book → Assignment → (room : ℕ) → Reply (List ℕ)
 ranksChecked book α room = do

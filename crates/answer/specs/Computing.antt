@@ -20,8 +20,8 @@ use Rattle.answer.specs.Table.{mark, tableOf, wordAfter}
 use Rattle.answer.specs.Told.{noValues, tabled, assigned, verdictMeaning, meaning}
 use Rattle.answer.specs.Usual.{trueLiteral, usualAnswer}
 use Rattle.answer.specs.RankTable.{rankTable}
-use Rattle.answer.specs.Answered.{answeredMeaning, counted, ranksChecked}
+use Rattle.answer.specs.Answered.{answeredMeaning, ranksChecked}
 
 unfoldable pub computing : Unit {0}
-unfolding Computing.computing variableOf names named itemAfter itemsAfter itemLine valueLine verdictLine lineOf verdictAfter valuesAfter lineAfter linesAfter whole readAnswer valued answered ranksFromAnswer upTo within mark tableOf wordAfter noValues tabled assigned verdictMeaning meaning trueLiteral usualAnswer rankTable answeredMeaning counted ranksChecked
+unfolding Computing.computing variableOf names named itemAfter itemsAfter itemLine valueLine verdictLine lineOf verdictAfter valuesAfter lineAfter linesAfter whole readAnswer valued answered ranksFromAnswer upTo within mark tableOf wordAfter noValues tabled assigned verdictMeaning meaning trueLiteral usualAnswer rankTable answeredMeaning ranksChecked
 computing = tt

@@ -13,13 +13,13 @@ use order::Decrease;
 use ranks::ranks_of;
 ghost use mathlib.Core.Path.{_≡_};
 ghost use lib.ListN.{length};
-ghost use Rattle.reply.specs.Lent.{laid};
+ghost use Rattle.reply.specs.Lent.{laid, lengthOf};
 ghost use Rattle.book.specs.Meaning.{bookAt};
 ghost use Rattle.order.specs.Standing.{BookStands};
 ghost use Rattle.clauses.specs.Blocks.{«V»};
 ghost use Rattle.answer.specs.Ranks.{answered, ranksFromAnswer};
 ghost use Rattle.answer.specs.Told.{assigned};
-ghost use Rattle.answer.specs.Answered.{answeredMeaning, counted, ranksChecked, acceptedAs, ranksIn};
+ghost use Rattle.answer.specs.Answered.{answeredMeaning, ranksChecked, acceptedAs, ranksIn};
 
 // What comes of an answer: so many ranks accepted, or the refusal.
 pub enum Answered {
@@ -55,7 +55,7 @@ fn ranks_in(answer: Answered) -> usize
 // "9, 8", of the rank variables' values; "Accepted ranks are written to the first n bytes of the lent buffer".
 fn checked_ranks(bytes: &[u8], book: Book, table: [u8; 64], out: &mut [u8]) -> Answered
     requires { ⌜ BookStands (now bytes) book (bookAt (now bytes) book) ⌝ }
-    ensures means { λ r. ⌜ answeredMeaning r ≡ counted (ranksChecked (bookAt (now (bytes .entry)) book) (assigned table) (length (now (out .entry)))) ⌝ }
+    ensures means { λ r. ⌜ answeredMeaning r ≡ lengthOf (ranksChecked (bookAt (now (bytes .entry)) book) (assigned table) (length (now (out .entry)))) ⌝ }
     ensures lays { λ _. ⌜ now (out .exit) ≡ laid (ranksChecked (bookAt (now (bytes .entry)) book) (assigned table) (length (now (out .entry)))) (now (out .entry)) ⌝ }
 {
     let symbols = book.symbols;
@@ -72,7 +72,7 @@ fn checked_ranks(bytes: &[u8], book: Book, table: [u8; 64], out: &mut [u8]) -> A
 fn answer_to(bytes: &[u8], book: Book, variables: usize, text: &[u8], out: &mut [u8]) -> Answered
     requires { ⌜ BookStands (now bytes) book (bookAt (now bytes) book) ⌝ }
     requires { ⌜ variables ≡ «V» (bookAt (now bytes) book) ⌝ }
-    ensures means { λ r. ⌜ answeredMeaning r ≡ counted (answered (bookAt (now (bytes .entry)) book) (now (text .entry)) (length (now (out .entry)))) ⌝ }
+    ensures means { λ r. ⌜ answeredMeaning r ≡ lengthOf (answered (bookAt (now (bytes .entry)) book) (now (text .entry)) (length (now (out .entry)))) ⌝ }
     ensures lays { λ _. ⌜ now (out .exit) ≡ laid (answered (bookAt (now (bytes .entry)) book) (now (text .entry)) (length (now (out .entry)))) (now (out .entry)) ⌝ }
 {
     if 65536 < text.len() {
@@ -94,7 +94,7 @@ fn answer_to(bytes: &[u8], book: Book, variables: usize, text: &[u8], out: &mut 
 // Ranks from a solver's answer: the book's refusals 1 to 6, then 12, 13, 14, 9, 8; accepted ranks stand in the first n bytes of the lent
 // buffer, and its other bytes keep their values.
 pub fn ranks_from_answer(book: &[u8], text: &[u8], out: &mut [u8]) -> Answered
-    ensures means { λ r. ⌜ answeredMeaning r ≡ counted (ranksFromAnswer (now (book .entry)) (now (text .entry)) (length (now (out .entry)))) ⌝ }
+    ensures means { λ r. ⌜ answeredMeaning r ≡ lengthOf (ranksFromAnswer (now (book .entry)) (now (text .entry)) (length (now (out .entry)))) ⌝ }
     ensures lays { λ _. ⌜ now (out .exit) ≡ laid (ranksFromAnswer (now (book .entry)) (now (text .entry)) (length (now (out .entry)))) (now (out .entry)) ⌝ }
 {
     let read = book::read_book(book);

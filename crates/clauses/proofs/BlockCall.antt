@@ -8,7 +8,7 @@ use lib.ListN.{length, take, drop, getElem?}
 use lib.Seq.{take-all}
 use borrow.Author.Tests.{le-leb, lt-leb}
 use Rattle.reply.specs.Reply.{Refusal, Reply, given, refused, unless, _>>_, _>>=_, _at_}
-use Rattle.reply.specs.Lent.{laid}
+use Rattle.reply.specs.Lent.{laid, lengthOf}
 use Rattle.reply.proofs.Given.{given-bind}
 use Rattle.book.specs.Book.{Book}
 use Rattle.book.specs.Limits.{WithinLimits}
@@ -19,7 +19,7 @@ use Rattle.book.specs.declared.BookVerdict.the-variants.{Readable, Ended, Unkno
 use Rattle.order.specs.Meaning.{refusalOnly}
 use Rattle.clauses.specs.File.{fileBlocks, numberedBlock, blockOf, block}
 use Rattle.clauses.specs.Laying.{Lays}
-use Rattle.clauses.specs.Written.{lengthOf, writtenMeaning}
+use Rattle.clauses.specs.Written.{writtenMeaning}
 use Rattle.clauses.specs.declared.Written.{Written}
 use Rattle.clauses.specs.declared.Written.the-variants.{Laid, Unreadable, NoBlock, ShortBuffer}
 use Rattle.clauses.proofs.Bounds.{block-at-most}

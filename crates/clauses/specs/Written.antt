@@ -1,17 +1,11 @@
 -- What the block call's answers mean on paper.
 use Prim.Native.Nat.{ℕ}
-use mathlib.Core.List.{List, []}
-use lib.ListN.{length}
+use mathlib.Core.List.{[]}
 use Rattle.reply.specs.Reply.{Reply, Attempt, given, refused, _>>_, _at_}
 use Rattle.book.specs.Meaning.{told}
 use Rattle.order.specs.Meaning.{refusalOnly}
 use Rattle.clauses.specs.declared.Written.{Written}
 use Rattle.clauses.specs.declared.Written.the-variants.{Laid, Unreadable, NoBlock, ShortBuffer}
-
--- "replies with its length": of a reply with bytes, their number.
-unfoldable pub lengthOf : Reply (List ℕ) → Reply ℕ
-lengthOf (given bytes) = given (length bytes)
-lengthOf (refused r) = refused r
 
 -- The length of the block that was laid, or the refusal: 1 to 6, 10, 9.
 unfoldable pub writtenMeaning : Written → Reply ℕ

@@ -15,7 +15,7 @@ ghost use mathlib.Core.List.{List, [], flatMap, flatten};
 ghost use mathlib.Core.Path.{_≡_};
 ghost use mathlib.Core.Option.{some};
 ghost use lib.ListN.{length, getD, getElem?};
-ghost use Rattle.reply.specs.Lent.{laid};
+ghost use Rattle.reply.specs.Lent.{laid, lengthOf};
 ghost use Rattle.term.specs.Tables.{rankBits};
 ghost use Rattle.book.specs.Meaning.{bookAt};
 ghost use Rattle.clauses.specs.Blocks.{pairBlocks, blocks, «V»};
@@ -24,7 +24,7 @@ ghost use Rattle.clauses.specs.Laying.{Lays};
 ghost use Rattle.clauses.specs.Numbering.{firstBase};
 ghost use Rattle.clauses.specs.Read.{ReadFrom, WasRead, settingAt, countsText};
 ghost use Rattle.clauses.specs.Places.{Finds, FindsBlock, SomeNumber};
-ghost use Rattle.clauses.specs.Written.{lengthOf, writtenMeaning};
+ghost use Rattle.clauses.specs.Written.{writtenMeaning};
 
 // What the blocks of rule i share, whose numbers of C and D start at this base.
 fn setting_at(book: Book, base: usize, i: usize) -> Setting

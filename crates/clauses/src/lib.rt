@@ -9,9 +9,9 @@ pub mod writing;
 use book::BookVerdict;
 ghost use mathlib.Core.Path.{_≡_};
 ghost use lib.ListN.{length};
-ghost use Rattle.reply.specs.Lent.{laid};
+ghost use Rattle.reply.specs.Lent.{laid, lengthOf};
 ghost use Rattle.clauses.specs.File.{block};
-ghost use Rattle.clauses.specs.Written.{lengthOf, writtenMeaning};
+ghost use Rattle.clauses.specs.Written.{writtenMeaning};
 
 // What the block call answers: the length of the block that it laid, or a refusal: the book's own, 10 or 9.
 pub enum Written {

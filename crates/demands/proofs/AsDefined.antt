@@ -3,9 +3,7 @@ use mathlib.Core.List.{[]}
 use mathlib.Core.Path.{_≡_, refl, ap, _∙_}
 use lib.ListN.{length}
 use Rattle.reply.specs.Reply.{Reply, given, refused, _>>=_}
-use Rattle.reply.specs.Lent.{laid}
-use Rattle.clauses.specs.Written.{lengthOf}
-use Rattle.answer.specs.Answered.{counted}
+use Rattle.reply.specs.Lent.{laid, lengthOf}
 use Rattle.rewriting.specs.Run.{ranBytes}
 use Rattle.rewriting.specs.RunMeaning.{runTold}
 use Rattle.demands.specs.EntryPoints.{Bytes, answer, bufferAfter}
@@ -28,15 +26,10 @@ module _ {A : Type 0} where
 itself-written : (reply : Reply Bytes) (buffer : Bytes) → laid reply buffer ≡ laid (_>>=_ reply (λ bytes. given bytes)) buffer
 itself-written reply buffer = ap (λ (x : Reply Bytes). laid x buffer) (itself reply)
 
-ranks-counted : (reply : Reply Bytes) → counted reply ≡ _>>=_ reply (λ bytes. given (length bytes))
-unfolding counted _>>=_
-ranks-counted (given bytes) = refl
-ranks-counted (refused r) = refl
-
-block-counted : (reply : Reply Bytes) → lengthOf reply ≡ _>>=_ reply (λ bytes. given (length bytes))
+told-by-length : (reply : Reply Bytes) → lengthOf reply ≡ _>>=_ reply (λ bytes. given (length bytes))
 unfolding lengthOf _>>=_
-block-counted (given bytes) = refl
-block-counted (refused r) = refl
+told-by-length (given bytes) = refl
+told-by-length (refused r) = refl
 
 pub read-book-as-defined : AsDefined readBookInCode
 unfolding readBookInCode answer bufferAfter
@@ -48,7 +41,7 @@ read-book-as-defined = record {
 pub write-block-as-defined : AsDefined writeBlockInCode
 unfolding writeBlockInCode answer bufferAfter
 write-block-as-defined = record {
-  answers = λ call. call .ensured .0 ∙ block-counted _;
+  answers = λ call. call .ensured .0 ∙ told-by-length _;
   writes = λ call. call .ensured .1 ∙ itself-written _ _;
 }
 
@@ -62,7 +55,7 @@ check-ranks-as-defined = record {
 pub ranks-from-answer-as-defined : AsDefined ranksFromAnswerInCode
 unfolding ranksFromAnswerInCode answer bufferAfter
 ranks-from-answer-as-defined = record {
-  answers = λ call. call .ensured .0 ∙ ranks-counted _;
+  answers = λ call. call .ensured .0 ∙ told-by-length _;
   writes = λ call. call .ensured .1 ∙ itself-written _ _;
 }
 

@@ -8,3 +8,8 @@ use Rattle.reply.specs.Reply.{Reply, given, refused}
 unfoldable pub laid : Reply (List ℕ) → List ℕ → List ℕ
 laid (given bytes) buffer = bytes ++ drop (length bytes) buffer
 laid (refused r) buffer = buffer
+
+-- "replies with its length": of a reply with bytes, their number.
+unfoldable pub lengthOf : Reply (List ℕ) → Reply ℕ
+lengthOf (given bytes) = given (length bytes)
+lengthOf (refused r) = refused r

@@ -18,13 +18,11 @@ use replies::of_ranks;
 use replies::of_run;
 ghost use mathlib.Core.Path.{_≡_};
 ghost use lib.ListN.{length};
-ghost use Rattle.reply.specs.Lent.{laid};
+ghost use Rattle.reply.specs.Lent.{laid, lengthOf};
 ghost use Rattle.book.specs.Reading.{readBook};
 ghost use Rattle.order.specs.Clearing.{checkRanks};
 ghost use Rattle.clauses.specs.File.{block};
-ghost use Rattle.clauses.specs.Written.{lengthOf};
 ghost use Rattle.answer.specs.Ranks.{ranksFromAnswer};
-ghost use Rattle.answer.specs.Answered.{counted};
 ghost use Rattle.rewriting.specs.Run.{run, ranBytes};
 ghost use Rattle.rewriting.specs.RunMeaning.{runTold};
 ghost use Rattle.rewriting.specs.Argument.{argument};
@@ -74,7 +72,7 @@ pub extern "C" fn rulebook_ranks_from_answer(
     answer: &[u8],
     out: &mut [u8],
 ) -> WrittenReply
-    ensures replies { λ r. ⌜ r ≡ writtenReply (counted (ranksFromAnswer (now (book .entry)) (now (answer .entry)) (length (now (out .entry))))) ⌝ }
+    ensures replies { λ r. ⌜ r ≡ writtenReply (lengthOf (ranksFromAnswer (now (book .entry)) (now (answer .entry)) (length (now (out .entry))))) ⌝ }
     ensures lays { λ _. ⌜ now (out .exit) ≡ laid (ranksFromAnswer (now (book .entry)) (now (answer .entry)) (length (now (out .entry)))) (now (out .entry)) ⌝ }
 {
     of_answer(answer::ranks_from_answer(book, answer, out))
