@@ -66,7 +66,7 @@ fn turn(
 
 // Steps of the term in the first `length` bytes of buffer `one`, until the run ends. The two buffers take turns, so that a step copies the
 // term once.
-pub fn run_on(
+fn run_on(
     book: &[u8],
     places: Book,
     one: &mut [u8],

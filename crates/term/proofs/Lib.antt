@@ -6,3 +6,4 @@ pub mod At
 pub mod SameAt
 pub mod Copied
 pub mod PrefixAt
+pub mod Settled
