@@ -2,7 +2,8 @@
  *
  * Each call takes arbitrary bytes. A reply's refusal is 0 if the input was taken, else a number of document 01's
  * table with its place; then every other field is 0 and no byte of a lent buffer has changed. A pointer must
- * point to as many bytes as its length says and may not be null, even where the length is 0. */
+ * point to as many bytes as its length says and may not be null, even where the length is 0; a lent buffer may
+ * share no byte with another argument. crates/rulebook/src/lib.rt has what each call promises. */
 #ifndef RULEBOOK_H
 #define RULEBOOK_H
 

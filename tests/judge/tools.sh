@@ -8,6 +8,10 @@ need() {
     command -v "$1" >/dev/null 2>&1 || { echo "$0: $1 is not installed; on Debian: apt-get install $2" >&2; exit 2; }
 }
 
+need_rt() {
+    command -v rt >/dev/null 2>&1 || { echo "$0: the Rattle toolchain's command rt is not on the PATH" >&2; exit 2; }
+}
+
 build_judge() {
     need rustc rustc
     need cc "gcc libc6-dev"
@@ -25,7 +29,7 @@ on_arm() {
 }
 
 set_kit() {
-    command -v rt >/dev/null 2>&1 || { echo "$0: the Rattle toolchain's command rt is not on the PATH" >&2; exit 2; }
+    need_rt
     kit=$(dirname "$(dirname "$(readlink -f "$(command -v rt)")")")
     KIT_BIN=$kit/on/aarch64/toolchain/bin
     KIT_LIB=$kit/on/aarch64/toolchain/lib
