@@ -79,7 +79,7 @@ rules-blocks-counted n k base [] small = omega arith
 rules-blocks-counted n k base (rule ∷ rules) small =
     rw length-append (omega (arith, rule-blocks-counted (setting n k base rule) rule (small .0), rules-blocks-counted n k (baseAfter base rule) rules (small .1)))
 
-blocks-counted : (book : Book) → WithinLimits book → length (blocks book) ≤ 3488
+pub blocks-counted : (book : Book) → WithinLimits book → length (blocks book) ≤ 3488
 unfolding blocks
 blocks-counted book limits =
     rw length-append

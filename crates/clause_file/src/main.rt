@@ -1,0 +1,94 @@
+// The clause program: reads a book from standard input and prints all blocks of its clause file, or the one line `refused N at P`.
+use book::Book;
+use book::BookVerdict;
+use clauses::Written;
+use clauses::blocks::write_read_block;
+use libc::STDIN_FILENO;
+use libc::STDOUT_FILENO;
+ghost use mathlib.Core.Path.{_≡_};
+ghost use Prim.Native.Nat.{_≤_};
+ghost use lib.ListN.{length, drop};
+ghost use Rattle.book.specs.Meaning.{bookAt};
+ghost use Rattle.clauses.specs.File.{fileBlocks};
+ghost use Rattle.clauses.specs.Read.{ReadFrom};
+ghost use Rattle.clause_file.specs.Filling.{fitting, FilledWith};
+
+// Blocks laid into a buffer: how many bytes they have, and the number of the block behind them.
+pub struct Filled {
+    pub length: usize,
+    pub next: usize,
+}
+
+// Lays blocks one behind another, from this number on, as long as there are blocks and 512 bytes of room.
+fn fill(bytes: &[u8], book: Book, first: usize, out: &mut [u8]) -> Filled
+    requires { ⌜ ReadFrom (now bytes) book ⌝ }
+    ensures { λ r. ⌜ FilledWith (fitting (length (now (out .entry))) (drop first (fileBlocks (bookAt (now (bytes .entry)) book)))) first r (now (out .entry)) (now (out .exit)) ⌝ }
+{
+    let mut at = 0;
+    let mut next = first;
+    loop {
+        let written = write_read_block(bytes, book, next, &mut out[at..]);
+        let Written::Laid(length) = written else {
+            return Filled { length: at, next };
+        };
+        at += length;
+        next += 1;
+    }
+}
+
+// Prints all blocks, a buffer at a time, and answers how many they are.
+fn print_file(bytes: &[u8], book: Book, out: &mut [u8]) -> usize
+    requires { ⌜ ReadFrom (now bytes) book ⌝ }
+    requires { ⌜ 512 ≤ length (now out) ⌝ }
+    ensures { λ r. ⌜ r ≡ length (fileBlocks (bookAt (now (bytes .entry)) book)) ⌝ }
+{
+    let mut number = 0;
+    loop {
+        let filled = fill(bytes, book, number, out);
+        if filled.next == number {
+            return number;
+        }
+        let length = filled.length;
+        io::write_all(STDOUT_FILENO, &out[..length]);
+        number = filled.next;
+    }
+}
+
+fn print_refusal(number: u64, place: usize) {
+    io::write_all(STDOUT_FILENO, b"refused ");
+    io::print_decimal(STDOUT_FILENO, number);
+    io::write_all(STDOUT_FILENO, b" at ");
+    io::print_decimal(STDOUT_FILENO, place as u64);
+    io::write_all(STDOUT_FILENO, b"\n");
+}
+
+// Why a book cannot be read; nothing for a readable one.
+fn print_verdict(verdict: BookVerdict) {
+    match verdict {
+        BookVerdict::Readable => {}
+        BookVerdict::Ended(place) => print_refusal(1, place),
+        BookVerdict::UnknownKind(place) => print_refusal(2, place),
+        BookVerdict::NotAllowed(place) => print_refusal(3, place),
+        BookVerdict::BadBody(place) => print_refusal(4, place),
+        BookVerdict::TooMany(place) => print_refusal(5, place),
+        BookVerdict::AfterEnd(place) => print_refusal(6, place),
+    }
+}
+
+fn print_for(bytes: &[u8]) {
+    let read = book::read_book(bytes);
+    let verdict = read.verdict;
+    let BookVerdict::Readable = verdict else {
+        print_verdict(verdict);
+        return;
+    };
+    let book = read.book;
+    let mut out = io::large_buffer();
+    print_file(bytes, book, &mut out);
+}
+
+fn main() {
+    let mut bytes = [0u8; 1346];
+    let length = io::read_full(STDIN_FILENO, &mut bytes);
+    print_for(&bytes[..length]);
+}
