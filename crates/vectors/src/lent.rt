@@ -30,14 +30,25 @@ fn show_first(buffer: &[u8], written: usize) {
     show::bytes(&buffer[..n]);
 }
 
-// The bytes that a call wrote, and whether it kept the later ones.
-pub fn show_after(buffer: &[u8], written: usize) {
-    if 0 < written {
-        show_first(buffer, written);
-    }
+fn show_kept(buffer: &[u8], written: usize) {
     if kept_from(buffer, written) {
         show::text(b", later bytes kept");
     } else {
         show::text(b", later bytes changed");
     }
+}
+
+// The bytes that a call wrote, and whether it kept the later ones.
+pub fn show_after(buffer: &[u8], written: usize) {
+    if 0 < written {
+        show_first(buffer, written);
+    }
+    show_kept(buffer, written);
+}
+
+// The same for a call that writes text.
+pub fn show_lines_after(buffer: &[u8], written: usize) {
+    let n = words::within(written as u64, buffer);
+    show::lines(&buffer[..n]);
+    show_kept(buffer, written);
 }

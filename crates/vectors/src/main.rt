@@ -7,6 +7,7 @@ mod rows;
 mod running;
 mod show;
 mod words;
+mod writing;
 
 use libc::STDIN_FILENO;
 

@@ -4,6 +4,7 @@ use crate::reading;
 use crate::running;
 use crate::show;
 use crate::words;
+use crate::writing;
 use check::same;
 ghost use Rattle.io.specs.Counts.{Counts};
 
@@ -12,6 +13,12 @@ fn record(row: &[u8], book: &[u8]) {
     let mut record = [0u8; 1024];
     let n = words::bytes(words::word(row, 1), &mut record);
     reading::record(book, &record[..n]);
+}
+
+// block NUMBER ROOM
+fn block(row: &[u8], book: &[u8]) {
+    let number = words::number(words::word(row, 1));
+    writing::block(book, number, words::number(words::word(row, 2)));
 }
 
 // ranks RANKS
@@ -59,6 +66,8 @@ fn reply(row: &[u8], name: &[u8], book: &[u8]) {
         reading::book(book);
     } else if same(name, b"record") {
         record(row, book);
+    } else if same(name, b"block") {
+        block(row, book);
     } else if same(name, b"ranks") {
         ranks(row, book);
     } else if same(name, b"run") {

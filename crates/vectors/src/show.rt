@@ -1,4 +1,5 @@
 // A reply's parts, on standard output.
+use crate::words;
 use book::BookVerdict;
 use libc::STDOUT_FILENO;
 
@@ -24,6 +25,17 @@ pub fn bytes(bytes: &[u8]) {
     while i < bytes.len() {
         io::print_hex(STDOUT_FILENO, wide(bytes[i]), 2);
         i += 1;
+    }
+}
+
+// A text, its newlines written `|`.
+pub fn lines(bytes: &[u8]) {
+    let mut at = 0;
+    while at < bytes.len() {
+        let end = words::next(bytes, at, b'\n');
+        text(&bytes[at..end]);
+        text(b"|");
+        at = end + 1;
     }
 }
 

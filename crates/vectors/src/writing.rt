@@ -1,0 +1,30 @@
+// Blocks of the clause file, refusals 10 and 9.
+use crate::lent;
+use crate::show;
+use crate::words;
+use clauses::Written;
+
+// What came of a block call, and how many bytes it wrote.
+fn show_written(written: Written) -> usize {
+    match written {
+        Written::Laid(length) => {
+            return length;
+        }
+        Written::Unreadable(v) => show::unreadable(v),
+        Written::NoBlock => show::refused(10, 0),
+        Written::ShortBuffer => show::refused(9, 0),
+    }
+    0
+}
+
+fn block_into(book: &[u8], number: u64, wanted: u64, buffer: &mut [u8]) {
+    let room = words::within(wanted, buffer);
+    let written = clauses::write_block(book, number, &mut buffer[..room]);
+    let length = show_written(written);
+    lent::show_lines_after(buffer, length);
+}
+
+pub fn block(book: &[u8], number: u64, wanted: u64) {
+    let mut buffer = lent::lent();
+    block_into(book, number, wanted, &mut buffer);
+}
