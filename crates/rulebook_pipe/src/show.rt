@@ -1,0 +1,70 @@
+// Parts of a reply, on standard output.
+use book::Book;
+use book::BookVerdict;
+use libc::STDOUT_FILENO;
+
+pub fn text(words: &[u8]) {
+    io::write_all(STDOUT_FILENO, words);
+}
+
+pub fn number(n: u64) {
+    io::print_decimal(STDOUT_FILENO, n);
+}
+
+fn wide(x: u8) -> u64 {
+    x as u64
+}
+
+// `word number`, a line.
+pub fn line(word: &[u8], n: u64) {
+    text(word);
+    text(b" ");
+    number(n);
+    text(b"\n");
+}
+
+// The bytes from start to end in hexadecimal, two digits each.
+pub fn bytes(bytes: &[u8], start: usize, end: usize) {
+    let mut i = start;
+    while i < end {
+        if bytes.len() <= i {
+            return;
+        }
+        io::print_hex(STDOUT_FILENO, wide(bytes[i]), 2);
+        i += 1;
+    }
+}
+
+// The first `count` bytes as decimal numbers, a blank before each.
+pub fn numbers(bytes: &[u8], count: usize) {
+    let mut i = 0;
+    while i < count {
+        if bytes.len() <= i {
+            return;
+        }
+        text(b" ");
+        number(wide(bytes[i]));
+        i += 1;
+    }
+}
+
+pub fn refused(refusal: u64, place: usize) {
+    text(b"refused ");
+    number(refusal);
+    text(b" at ");
+    number(place as u64);
+    text(b"\n");
+}
+
+// Why a book cannot be read; nothing for a readable one.
+pub fn unreadable(verdict: BookVerdict) {
+    match verdict {
+        BookVerdict::Readable => {}
+        BookVerdict::Ended(p) => refused(1, p),
+        BookVerdict::UnknownKind(p) => refused(2, p),
+        BookVerdict::NotAllowed(p) => refused(3, p),
+        BookVerdict::BadBody(p) => refused(4, p),
+        BookVerdict::TooMany(p) => refused(5, p),
+        BookVerdict::AfterEnd(p) => refused(6, p),
+    }
+}
