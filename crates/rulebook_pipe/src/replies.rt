@@ -68,6 +68,7 @@ fn show_outcome(ended: Outcome) {
 fn run(book: &[u8], ranks: &[u8], record: &[u8], budget: u64) {
     let mut out = [0u8; 513];
     let ran = slices::run(book, ranks, record, budget, &mut out);
+    slices::told();
     match ran {
         RunReply::RanTo {
             outcome: ended,

@@ -55,7 +55,17 @@ fn tell(steps: u64, length: usize) {
         io::print_decimal(STDERR_FILENO, steps);
         io::write_all(STDERR_FILENO, b", nodes ");
         io::print_decimal(STDERR_FILENO, length as u64 / 2);
-        io::write_all(STDERR_FILENO, b"   \r");
+        io::write_all(STDERR_FILENO, b"   ");
+    }
+}
+
+// Clears the line that told it last.
+pub fn told() {
+    if libc::isatty(STDERR_FILENO) == 1 {
+        io::write_all(
+            STDERR_FILENO,
+            b"\r                                           \r",
+        );
     }
 }
 
@@ -75,7 +85,9 @@ pub fn run(book: &[u8], ranks: &[u8], record: &[u8], budget: u64, out: &mut [u8]
         let Outcome::Spent = outcome else {
             return reply;
         };
-        tell(steps, length);
+        if 0 < steps {
+            tell(steps, length);
+        }
         let slice = least(left, SLICE);
         reply = carry_on(book, ranks, steps, length, slice, out);
         left -= slice;
