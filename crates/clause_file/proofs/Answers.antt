@@ -9,13 +9,13 @@ use denote.Enum.Declared.{tagOf, declared}
 use types.Run.{OneOf, miss}
 use lib.ListN.{length, drop, getElem?, length-map}
 use Rattle.reply.specs.Reply.{Refusal, Reply, given, refused, _>>_, _at_}
-use Rattle.reply.specs.Lent.{laid}
+use Rattle.reply.specs.Lent.{laid, lengthOf}
 use Rattle.book.specs.Book.{Book}
 use Rattle.book.specs.Meaning.{told}
 use Rattle.book.specs.declared.BookVerdict.the-variants.{Readable, Ended, UnknownKind, NotAllowed, BadBody, TooMany, AfterEnd}
 use Rattle.order.specs.Meaning.{refusalOnly}
 use Rattle.clauses.specs.File.{clauseBytes, fileBlocks, blockOf}
-use Rattle.clauses.specs.Written.{lengthOf, writtenMeaning}
+use Rattle.clauses.specs.Written.{writtenMeaning}
 use Rattle.clauses.specs.declared.Written.{Written}
 use Rattle.clauses.specs.declared.Written.the-variants.{Laid, Unreadable, NoBlock, ShortBuffer}
 use Rattle.book.specs.Limits.{WithinLimits}

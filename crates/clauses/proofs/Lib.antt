@@ -46,5 +46,4 @@ pub mod FileBlocks
 pub mod BlockCall
 pub mod ReadBooks
 pub mod Settled
-pub mod SettledWriters
 pub mod WholeFile

@@ -4,7 +4,7 @@ mod nodes;
 mod pairs;
 mod parts;
 mod rules;
-pub mod writing;
+mod writing;
 
 use book::BookVerdict;
 ghost use mathlib.Core.Path.{_≡_};

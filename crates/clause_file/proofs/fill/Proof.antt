@@ -7,12 +7,11 @@ use borrow.Author.Needs.{needs}
 use borrow.Rule.Slice.PartMut.{midOf, putMid}
 use lib.ListN.{length}
 use Rattle.book.specs.Meaning.{bookAt}
-use Rattle.reply.specs.Lent.{laid}
+use Rattle.reply.specs.Lent.{laid, lengthOf}
 use Rattle.reply.specs.Reply.{Reply, refused}
 use Rattle.book.specs.Book.{Book}
 use Rattle.book.specs.Limits.{WithinLimits}
 use Rattle.clauses.specs.File.{fileBlocks, blockOf}
-use Rattle.clauses.specs.Written.{lengthOf}
 use Rattle.clauses.proofs.Bounds.{block-at-most}
 use Rattle.clauses.proofs.Elements.{element-member, element-within}
 use Rattle.clauses.proofs.Laid.{lays-length}
