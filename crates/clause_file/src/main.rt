@@ -75,6 +75,7 @@ fn print_verdict(verdict: BookVerdict) {
     }
 }
 
+// What is printed for the bytes of a book.
 fn print_for(bytes: &[u8]) {
     let read = book::read_book(bytes);
     let verdict = read.verdict;
@@ -87,6 +88,8 @@ fn print_for(bytes: &[u8]) {
     print_file(bytes, book, &mut out);
 }
 
+// The longest book has 1,345 bytes: 16 symbols of 2, 32 rules of 41 and the end. One byte more is enough of any input: the first 1,346
+// bytes decide what is printed (proofs/LongestBook, `first-bytes-printed`).
 fn main() {
     let mut bytes = [0u8; 1346];
     let length = io::read_full(STDIN_FILENO, &mut bytes);
