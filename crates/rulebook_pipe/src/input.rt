@@ -3,6 +3,7 @@ use libc::STDIN_FILENO;
 ghost use Prim.Native.Nat.{_≤_};
 ghost use mathlib.Core.Path.{_≡_};
 ghost use Rattle.io.specs.Counts.{Counts};
+ghost use Rattle.rulebook_pipe.specs.Digit.{withDigit};
 
 // The call's letter, 0 at the end of the input; the request's number, the lengths of its parts, and whether all of them were there.
 pub struct Header {
@@ -32,7 +33,9 @@ fn wide(x: u8) -> u64 {
 }
 
 // One more digit behind a value.
-fn grown(value: u64, digit: u64) -> Number {
+fn grown(value: u64, digit: u64) -> Number
+    ensures { λ r. ⌜ r ≡ withDigit value digit ⌝ }
+{
     let most = u64::MAX;
     if most / 10 < value {
         return Number::Missing;

@@ -1,18 +1,30 @@
 // Terms as text: `f2(f0,x1)` for symbol 2 over symbol 0 and variable 1.
 use crate::show::number;
 use crate::show::text;
+ghost use mathlib.Core.Path.{_≡_};
+ghost use Rattle.term.specs.Prefix.{arityOf};
+ghost use Rattle.book.specs.Meaning.{nodeOf};
 
 fn wide(x: u8) -> u64 {
     x as u64
 }
 
+fn index(x: u8) -> usize
+    ensures { λ r. ⌜ r ≡ x ⌝ }
+{
+    x as usize
+}
+
 // How many arguments a node has: those of its symbol, none of a variable.
-fn arguments(arities: [u8; 16], kind: u8, body: u8) -> u8 {
-    let symbol = body as usize;
-    if kind == 3 {
-        if symbol < 16 {
-            return arities[symbol];
-        }
+fn arguments(arities: [u8; 16], kind: u8, body: u8) -> u8
+    ensures { λ r. ⌜ r ≡ arityOf arities (nodeOf kind body) ⌝ }
+{
+    if kind != 3 {
+        return 0;
+    }
+    let symbol = index(body);
+    if symbol < 16 {
+        return arities[symbol];
     }
     0
 }

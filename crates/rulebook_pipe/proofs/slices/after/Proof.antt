@@ -1,0 +1,27 @@
+-- The steps made before are added; a refusal stays. Assumes nothing.
+use mathlib.Core.Path.{sym, ap}
+use borrow.Author.Needs.{needs}
+use Rattle.reply.specs.Reply.{_>>=_}
+use Rattle.rewriting.specs.RunMeaning.{runMeaning}
+use Rattle.rewriting.specs.declared.running.RunReply.{RunReply}
+use Rattle.rulebook_pipe.specs.Sliced.{toldLater}
+use Rattle.rulebook_pipe.proofs.AddUp.{refused-later}
+use Rattle.rulebook_pipe.proofs.slices.after.Statement.{statement}
+use Rattle.rulebook_pipe.proofs.slices.after.Tie as tie
+
+enum-known-reply : tie.Need-enum-known-reply
+enum-known-reply c = search needs
+
+returns : tie.Need-returns
+returns c = refused-later (c .before .args .made) (c .before .args .reply) (c .match .keys2)
+
+add-t6 : tie.Need-add-t6
+unfolding runMeaning
+add-t6 c = record { fits = c .before .before .before .pre _ (ap runMeaning (c .before .reply .given .1)) }
+
+returns-2 : tie.Need-returns-2
+unfolding runMeaning toldLater _>>=_
+returns-2 c = ap (λ (reply : RunReply). toldLater (c .before .before .before .args .made) (runMeaning reply)) (sym (c .before .reply .given .1))
+
+pub after-spec : {M : Type 1} → statement M
+after-spec = tie.close (tie.spec enum-known-reply returns add-t6 returns-2)

@@ -1,0 +1,48 @@
+-- Only a spent run goes on. Assumes nothing.
+use mathlib.Core.Path.{sym, ap, _∙_}
+use borrow.Author.Needs.{needs}
+use Rattle.rewriting.specs.declared.stepping.Outcome.{Outcome}
+use Rattle.rewriting.specs.declared.running.RunReply.the-variants.{RanTo}
+use Rattle.rulebook_pipe.specs.Sliced.{goingOf}
+use Rattle.rulebook_pipe.proofs.AddUp.{refused-ends}
+use Rattle.rulebook_pipe.proofs.slices.goes_on.Statement.{statement}
+use Rattle.rulebook_pipe.proofs.slices.goes_on.Tie as tie
+
+enum-known-reply : tie.Need-enum-known-reply
+enum-known-reply c = search needs
+
+returns : tie.Need-returns
+returns c = refused-ends (c .before .args .reply) (c .match .keys2)
+
+enum-told : tie.Need-enum-told
+enum-told c = search needs
+
+enum-told-2 : tie.Need-enum-told-2
+enum-told-2 c = search needs
+
+enum-told-3 : tie.Need-enum-told-3
+enum-told-3 c = search needs
+
+returns-2 : tie.Need-returns-2
+returns-2 c = search needs
+
+returns-3 : tie.Need-returns-3
+returns-3 c =
+    let told = c .before .before .before .reply .given in
+    sym (ap goingOf (told .1 ∙ ap (λ (ended : Outcome). RanTo ended (told .0 .1 .0) (told .0 .1 .1 .0)) (c .enum-told2 .given .1)))
+
+returns-4 : tie.Need-returns-4
+returns-4 c = search needs
+
+pub goes-on-spec : {M : Type 1} → statement M
+goes-on-spec =
+    tie.close
+    (tie.spec
+    enum-known-reply
+    returns
+    enum-told
+    enum-told-2
+    enum-told-3
+    returns-2
+    returns-3
+    returns-4)

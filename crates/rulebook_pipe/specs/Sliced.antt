@@ -1,0 +1,42 @@
+-- A run in slices of its budget.
+use Prim.Native.Nat.{ℕ, _+_}
+use mathlib.Core.List.{List}
+use mathlib.Core.Path.{_≡_}
+use lib.ListN.{length, take}
+use Rattle.reply.specs.Reply.{Reply, given, _>>=_}
+use Rattle.term.specs.Prefix.{recordBytes}
+use Rattle.rewriting.specs.Run.{Ran}
+use Rattle.rewriting.specs.RunMeaning.{Told, runTold, runMeaning}
+use Rattle.rewriting.specs.declared.running.RunReply.{RunReply}
+use Rattle.rewriting.specs.declared.running.RunReply.the-variants.{RanTo, Unreadable, WrongCount, NotDecreasing, Malformed, ShortBuffer}
+use Rattle.rewriting.specs.declared.stepping.Outcome.the-variants.{Done, Spent, TooLarge}
+use Rattle.demands.specs.BudgetsAdd.{counting}
+use Rattle.rulebook_pipe.specs.declared.slices.Going.{Going}
+use Rattle.rulebook_pipe.specs.declared.slices.Going.the-variants.{On, Ended}
+
+-- The answer is this run's, and the buffer starts with the record of the term that it reached.
+pub record OneRun (reply : Reply Ran) (answer : RunReply) (buffer : List ℕ) : Type 0 where
+  pub replied : runMeaning answer ≡ runTold reply
+  pub holds : (ran : Ran) → reply ≡ given ran → take (length (recordBytes (ran .reached))) buffer ≡ recordBytes (ran .reached)
+
+-- A run that so many steps led to, and how it is told.
+unfoldable pub laterOn : (made : ℕ) → Reply Ran → Reply Ran
+laterOn made reply = do
+  ran ← reply
+  given (counting made ran)
+
+unfoldable pub toldLater : (made : ℕ) → Reply Told → Reply Told
+toldLater made reply = do
+  told ← reply
+  given (record { outcome = told .outcome; steps = made + told .steps; length = told .length })
+
+-- Only a spent run goes on.
+abbrev pub goingOf : RunReply → Going
+goingOf (RanTo Done steps length) = Ended
+goingOf (RanTo Spent steps length) = On steps length
+goingOf (RanTo TooLarge steps length) = Ended
+goingOf (Unreadable verdict) = Ended
+goingOf WrongCount = Ended
+goingOf (NotDecreasing rule) = Ended
+goingOf Malformed = Ended
+goingOf ShortBuffer = Ended
