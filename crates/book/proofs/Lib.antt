@@ -18,3 +18,4 @@ pub mod RecordStands
 pub mod RecordGoing
 pub mod Settled
 pub mod PlacedCases
+pub mod RecordBack

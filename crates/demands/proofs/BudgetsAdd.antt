@@ -13,7 +13,7 @@ use Rattle.order.specs.Clearing.{Clears, Decreases}
 use Rattle.order.proofs.Checked.{ranks-clear-exactly}
 use Rattle.order.proofs.PathOrder.{ranks-order}
 use Rattle.rewriting.specs.Run.{Outcome, done, spent, tooLarge, Ran, runFrom, ranOn, run}
-use Rattle.rewriting.proofs.RecordBack.{record-back}
+use Rattle.book.proofs.RecordBack.{record-back}
 use Rattle.rewriting.proofs.Run.{after, budgets-add}
 use Rattle.rewriting.proofs.Run as Runs
 use Rattle.rewriting.proofs.StaysARecord.{Recordable, run-recordable}

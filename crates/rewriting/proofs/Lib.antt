@@ -21,5 +21,4 @@ pub mod TakingTurns
 pub mod RecordRuns
 pub mod RanOn
 pub mod Settled
-pub mod RecordBack
 pub mod StaysARecord
