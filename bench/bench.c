@@ -10,10 +10,10 @@
 #include <string.h>
 #include <time.h>
 
-enum { ROUNDS = 7, BLOCK_ROOM = 512, RUN_ROOM = 513, TEXT_ROOM = 1 << 20, WRITTEN_BEFORE = 0x5a };
+enum { LEAST_ROUNDS = 5, BLOCK_ROOM = 512, RUN_ROOM = 513, TEXT_ROOM = 1 << 20, WRITTEN_BEFORE = 0x5a };
 
-/* A round of one side takes at least so long, in seconds of this process alone. */
-static const double ROUND_SECONDS = 0.05;
+/* A round of one side takes at least so long, and all rounds of both, in seconds of this process alone. */
+static const double ROUND_SECONDS = 0.02, SUBJECT_SECONDS = 3;
 
 typedef struct {
     rulebook_book (*read_book)(const uint8_t *, size_t);
@@ -232,8 +232,8 @@ static double lesser(double a, double b)
 static void time_subject(const char *name, void (*once)(const calls *))
 {
     size_t times = times_for_a_round(once);
-    double library = 1e9, plain = 1e9;
-    for (int round = 0; round < ROUNDS; round++) {
+    double library = 1e9, plain = 1e9, start = seconds();
+    for (int round = 0; round < LEAST_ROUNDS || seconds() - start < SUBJECT_SECONDS; round++) {
         library = lesser(library, time_of(once, &LIBRARY, times));
         plain = lesser(plain, time_of(once, &PLAIN, times));
     }
@@ -243,7 +243,7 @@ static void time_subject(const char *name, void (*once)(const calls *))
 
 static void time_all(void)
 {
-    printf("CPU time in microseconds, best of %d rounds\n", ROUNDS);
+    printf("CPU time in microseconds, best of %d rounds or more\n", LEAST_ROUNDS);
     printf("%-42s %14s %14s %8s\n", "", "library", "plain C", "ratio");
     for (int i = 0; i < SUBJECT_COUNT; i++)
         time_subject(SUBJECTS[i].name, SUBJECTS[i].once);
