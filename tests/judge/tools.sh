@@ -1,4 +1,4 @@
-# Sourced by tests/differential and tests/solvers, from the repository's root: builds the judge and the driver.
+# Sourced from the repository's root: builds the judge, and C programs over the library, and runs them.
 
 BUILT=target/judge
 ARCHIVE=target/staticlib/librulebook.a
@@ -23,7 +23,8 @@ judge() {
     "$BUILT/judge" "$@"
 }
 
-# The archive is x86-64 on every machine. On Arm the Rattle kit brings a compiler and a linker for it and an emulator.
+# The archive and the programs are x86-64 on every machine. On Arm the Rattle kit brings a compiler and a linker for them and
+# an emulator.
 on_arm() {
     [ "$(uname -m)" = aarch64 ]
 }
@@ -31,36 +32,56 @@ on_arm() {
 set_kit() {
     need_rt
     kit=$(dirname "$(dirname "$(readlink -f "$(command -v rt)")")")
-    KIT_BIN=$kit/on/aarch64/toolchain/bin
-    KIT_LIB=$kit/on/aarch64/toolchain/lib
+    KIT_BIN=$kit/on/$(uname -m)/toolchain/bin
+    KIT_LIB=$kit/on/$(uname -m)/toolchain/lib
 }
 
-build_driver() {
+# build_x86 PROGRAM SOURCE..: C sources with the library's archive.
+build_x86() {
     need cc "gcc libc6-dev"
-    mkdir -p "$BUILT"
     if on_arm; then
         set_kit
-        cross_build_driver
+        cross_build "$@"
     else
-        cc -std=c99 -O2 -Iinclude -o "$BUILT/driver" tests/judge/driver.c "$ARCHIVE"
+        program=$1
+        shift
+        "${CC:-cc}" -std=c99 -O2 -Iinclude -Wl,-z,now -o "$program" "$@" "$ARCHIVE"
     fi
 }
 
-# The kit has no C headers. Those of the machine's own compiler serve: what the driver takes from them is the same on both.
-cross_build_driver() {
-    "$KIT_BIN/clang" --target=x86_64-linux-gnu -std=c99 -O2 -fPIE -nostdinc -isystem "$(cc -print-file-name=include)" \
-        -isystem "/usr/include/$(cc -dumpmachine)" -isystem /usr/include -Iinclude -c -o "$BUILT/driver.o" tests/judge/driver.c
-    "$KIT_BIN/ld.lld" -pie -dynamic-linker ld-linux-x86-64.so.2 -o "$BUILT/driver" \
-        "$KIT_LIB/Scrt1.o" "$KIT_LIB/crti.o" "$KIT_LIB/crtbeginS.o" "$BUILT/driver.o" "$ARCHIVE" \
+# The kit has no C headers. Those of the machine's own compiler serve: what the sources take from them is the same on both.
+cross_build() {
+    program=$1 objects=''
+    shift
+    for source; do
+        object=$program.$(echo "${source%.c}" | tr / .).o
+        "$KIT_BIN/clang" --target=x86_64-linux-gnu -std=c99 -O2 -fPIE -nostdinc -isystem "$(cc -print-file-name=include)" \
+            -isystem "/usr/include/$(cc -dumpmachine)" -isystem /usr/include -Iinclude -c -o "$object" "$source"
+        objects="$objects $object"
+    done
+    # shellcheck disable=SC2086
+    "$KIT_BIN/ld.lld" -pie -z now -dynamic-linker ld-linux-x86-64.so.2 -o "$program" \
+        "$KIT_LIB/Scrt1.o" "$KIT_LIB/crti.o" "$KIT_LIB/crtbeginS.o" $objects "$ARCHIVE" \
         "$KIT_LIB/libc.so.6" "$KIT_LIB/libc_nonshared.a" "$KIT_LIB/libgcc.a" "$KIT_LIB/crtendS.o" "$KIT_LIB/crtn.o"
 }
 
-driver() {
+# run_x86 PROGRAM
+run_x86() {
     if on_arm; then
-        "$KIT_BIN/qemu-x86_64" "$KIT_LIB/ld-linux-x86-64.so.2" --library-path "$KIT_LIB" "$BUILT/driver"
+        set_kit
+        "$KIT_BIN/qemu-x86_64" "$KIT_LIB/ld-linux-x86-64.so.2" --library-path "$KIT_LIB" "$1"
     else
-        "$BUILT/driver"
+        "$1"
     fi
+}
+
+build_driver() {
+    mkdir -p "$BUILT"
+    build_x86 "$BUILT/driver" tests/judge/driver.c
+}
+
+driver() {
+    run_x86 "$BUILT/driver"
 }
 
 # stopped STATUS NAME: which request was the driver's last.
