@@ -23,8 +23,8 @@ use input::Header;
 
 // Answers the request whose header was read. Of each part only the first bytes are kept: one byte more than any book, answer or record
 // that is taken has. What lies behind them changes no reply. A book of more than 1,345 bytes is refused at a record that stands within its
-// first 1,346: up to there at most 1,344 bytes were taken, and a record has at most two. An answer of more than 65,536 bytes is refused
-// by 12, ranks as many as that by 7, a record of more than 513 by 11, whatever the bytes are.
+// first 1,346 (clause_file's proofs/LongestBook). An answer of more than 65,536 bytes is refused by 12, ranks as many as that by 7, a
+// record of more than 513 by 11, whatever the bytes are.
 fn answer_to(header: Header) {
     let mut book_space = [0u8; 1346];
     let mut text_space = [0u8; 65537];

@@ -46,12 +46,14 @@ fn arities(book: &[u8]) -> [u8; 16] {
     read.book.arities
 }
 
-// `term` and the term at this place, then `bytes` and its bytes up to `end`.
-fn show_term(book: &[u8], bytes: &[u8], start: usize, nodes: usize, end: usize) {
+// `nodes` and how many the term at the start of the bytes has, `term` and the term itself, `bytes` and the first `length` bytes: those of
+// the term, and perhaps of an end record.
+fn show_term(book: &[u8], bytes: &[u8], length: usize) {
+    show::line(b"nodes", length as u64 / 2);
     show::text(b"term ");
-    terms::term(bytes, arities(book), start, nodes);
+    terms::term(bytes, arities(book), 0, length / 2);
     show::text(b"\nbytes ");
-    show::bytes(bytes, start, end);
+    show::bytes(bytes, length);
     show::text(b"\n");
 }
 
@@ -63,8 +65,7 @@ fn show_outcome(ended: Outcome) {
     }
 }
 
-// `done`, `spent` or `too large`, then `steps` and how many were made, `nodes` and how many the term reached has, `term` and that term,
-// `bytes` and its record.
+// `done`, `spent` or `too large`, then `steps` and how many were made, then the term reached, its record's bytes with it.
 fn run(book: &[u8], ranks: &[u8], record: &[u8], budget: u64) {
     let mut out = [0u8; 513];
     let ran = slices::run(book, ranks, record, budget, &mut out);
@@ -77,8 +78,7 @@ fn run(book: &[u8], ranks: &[u8], record: &[u8], budget: u64) {
         } => {
             show_outcome(ended);
             show::line(b"steps", steps);
-            show::line(b"nodes", length as u64 / 2);
-            show_term(book, &out, 0, length / 2, length);
+            show_term(book, &out, length);
         }
         RunReply::Unreadable(why) => show::unreadable(why),
         RunReply::WrongCount => show::refused(7, 0),
@@ -88,15 +88,14 @@ fn run(book: &[u8], ranks: &[u8], record: &[u8], budget: u64) {
     }
 }
 
-// `start` and the argument's first byte in the record, `nodes` and how many it has, `term` and the argument, `bytes` and its bytes.
+// `start` and the place of the argument's first byte in the record, then the argument.
 fn argument(book: &[u8], record: &[u8], i: u64) {
     let reply = rewriting::asking::argument_reply(book, record, i);
     match reply {
         ArgumentReply::Found { start, length } => {
             show::line(b"start", start as u64);
-            show::line(b"nodes", length as u64 / 2);
             let part = rewriting::asking::argument(book, record, i);
-            show_term(book, part, 0, length / 2, length);
+            show_term(book, part, length);
         }
         ArgumentReply::Unreadable(why) => show::unreadable(why),
         ArgumentReply::Malformed => show::refused(11, 0),

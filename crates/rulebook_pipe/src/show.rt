@@ -1,5 +1,4 @@
 // Parts of a reply, on standard output.
-use book::Book;
 use book::BookVerdict;
 use libc::STDOUT_FILENO;
 
@@ -23,10 +22,10 @@ pub fn line(word: &[u8], n: u64) {
     text(b"\n");
 }
 
-// The bytes from start to end in hexadecimal, two digits each.
-pub fn bytes(bytes: &[u8], start: usize, end: usize) {
-    let mut i = start;
-    while i < end {
+// The first `count` bytes in hexadecimal, two digits each.
+pub fn bytes(bytes: &[u8], count: usize) {
+    let mut i = 0;
+    while i < count {
         if bytes.len() <= i {
             return;
         }

@@ -1,14 +1,14 @@
--- It ends: `i` counts up to `end`. Assumes nothing.
+-- It ends: `i` counts up to `count`. Assumes nothing.
 use Prim.Native.Nat.{_-_}
 use borrow.Author.Needs.{needs}
 use Rattle.rulebook_pipe.proofs.show.bytes.Statement.{statement}
 use Rattle.rulebook_pipe.proofs.show.bytes.Tie as tie
 
 abbrev Inv-loop : tie.InvT-loop
-Inv-loop bytes start end i₀ i = Unit {0}
+Inv-loop bytes count i₀ i = Unit {0}
 
 abbrev μ-loop : tie.MeasureT-loop
-μ-loop bytes start end i₀ i = end - i
+μ-loop bytes count i₀ i = count - i
 
 loop-holds : tie.Need-loop-holds Inv-loop μ-loop
 loop-holds c = search needs
