@@ -88,7 +88,8 @@ pub(crate) fn exceeds(
     false
 }
 
-// (3) "some si is identical to t or exceeds t", of the arguments that stand from ss on.
+// (3) "some si is identical to t or exceeds t", of the arguments that stand from ss on. `ss_nodes`, what they have at most together, is
+// here for the number that falls over the calls.
 fn some_reaches(
     bytes: &[u8],
     arities: [u8; 16],
@@ -102,22 +103,23 @@ fn some_reaches(
     requires { ⌜ ArgumentsAt (now bytes) arities many ss «ss_nodes» × SideAt (now bytes) arities t «t_nodes» ⌝ }
     ensures { λ r. ⌜ SomeReachesAt (now (bytes .entry)) arities ranks many ss t r ⌝ }
 {
-    if many == 0 {
-        return false;
+    let mut left = many;
+    let mut at = ss;
+    while left != 0 {
+        if term::same_at(bytes, arities, at, t) {
+            return true;
+        }
+        let nodes = nodes_at(bytes, arities, at);
+        if exceeds(bytes, arities, ranks, at, nodes, t, t_nodes) {
+            return true;
+        }
+        at = at + 2 * nodes;
+        left = left - 1;
     }
-    if term::same_at(bytes, arities, ss, t) {
-        return true;
-    }
-    let nodes = nodes_at(bytes, arities, ss);
-    if exceeds(bytes, arities, ranks, ss, nodes, t, t_nodes) {
-        return true;
-    }
-    let later = ss + 2 * nodes;
-    let left = ss_nodes - nodes;
-    some_reaches(bytes, arities, ranks, many - 1, later, left, t, t_nodes)
+    false
 }
 
-// "s exceeds every tj", of the arguments that stand from ts on.
+// "s exceeds every tj", of the arguments that stand from ts on; `ts_nodes` as above.
 fn exceeds_every(
     bytes: &[u8],
     arities: [u8; 16],
@@ -131,16 +133,17 @@ fn exceeds_every(
     requires { ⌜ SideAt (now bytes) arities s «s_nodes» × ArgumentsAt (now bytes) arities many ts «ts_nodes» ⌝ }
     ensures { λ r. ⌜ ExceedsEveryAt (now (bytes .entry)) arities ranks s many ts r ⌝ }
 {
-    if many == 0 {
-        return true;
+    let mut left = many;
+    let mut at = ts;
+    while left != 0 {
+        let nodes = nodes_at(bytes, arities, at);
+        if !exceeds(bytes, arities, ranks, s, s_nodes, at, nodes) {
+            return false;
+        }
+        at = at + 2 * nodes;
+        left = left - 1;
     }
-    let nodes = nodes_at(bytes, arities, ts);
-    if exceeds(bytes, arities, ranks, s, s_nodes, ts, nodes) {
-        let later = ts + 2 * nodes;
-        let left = ts_nodes - nodes;
-        return exceeds_every(bytes, arities, ranks, s, s_nodes, many - 1, later, left);
-    }
-    false
+    true
 }
 
 // (1) "for some i the arguments before i are identical, si exceeds ti, and s exceeds every tj with j > i": i is the first place at which

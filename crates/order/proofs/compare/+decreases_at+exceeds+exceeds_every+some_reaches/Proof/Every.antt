@@ -1,33 +1,46 @@
--- `order::compare::exceeds_every`: the first argument that s does not exceed decides. Assumes nothing.
+-- `order::compare::exceeds_every`: the first argument that s does not exceed decides. The loop's invariant: an answer for the arguments
+-- that are left is one for all, as those before were exceeded. The measure is how many are left. Assumes nothing.
 use Prim.Native.Nat.{ℕ}
-use mathlib.Core.Bool.{true, false}
+use mathlib.Core.Bool.{Bool, true, false}
 use mathlib.Core.Path.{_≡_, sym, _∙_}
 use native.Mathlib.Omega.{arith}
+use borrow.Author.Tests.{not-true, not-false}
 use borrow.Fn.Kinds.{In, Out}
 use Rattle.order.specs.Test.{exceeds}
-use Rattle.order.proofs.Places.{Parted, first-standing, parted, none-there, every-for-all}
+use Rattle.order.specs.Places.{ArgumentsAt, ExceedsEveryAt}
+use Rattle.order.proofs.Places.{Parted, first-standing, parted, wider, none-there, every-for-all}
 use Rattle.order.proofs.Stepwise.{every-none, every-later, every-fails}
 use Rattle.order.proofs.compare.exceeds_every.Reads as reads
 use Rattle.order.proofs.compare.exceeds_every.Kinds as kinds
 use Rattle.order.proofs.compare.+decreases_at+exceeds+exceeds_every+some_reaches.Lts-exceeds_every as lts
 use Rattle.order.proofs.compare.+decreases_at+exceeds+exceeds_every+some_reaches.Proof.Falling.{exceeds-every-at, exceeds-every-calls}
 
+abbrev Inv-loop : lts.InvT-loop
+Inv-loop bytes arities ranks s s-nodes many ts ts-nodes left₀ at₀ left at =
+    ArgumentsAt bytes arities left at ts-nodes ×
+    ((r : Bool) → ExceedsEveryAt bytes arities ranks s left at r → ExceedsEveryAt bytes arities ranks s many ts r)
+
+abbrev μ-loop : lts.MeasureT-loop
+μ-loop bytes arities ranks s s-nodes many ts ts-nodes left₀ at₀ left at = left
+
 -- A place of the code, or what is asked there, at the number t.
-abbrev Of : (lts.Claims → In 1 kinds.ps → Out 1 kinds.ps kinds.r → Type 0) → ℕ → Type 0
-Of place t = place (exceeds-every-calls t) (exceeds-every-at t) reads.Post
+abbrev Of :
+    (lts.Claims → In 1 kinds.ps → Out 1 kinds.ps kinds.r → lts.InvT-loop → lts.MeasureT-loop → Type 0) → ℕ → Type 0
+Of place t = place (exceeds-every-calls t) (exceeds-every-at t) reads.Post Inv-loop μ-loop
 
 module _ (t : ℕ) where
-  -- The first argument, of n nodes, and the others.
-  abbrev PartsOf : (start : Of lts.Start t) (n : ℕ) → Type 0
-  PartsOf start n =
-      Parted (start .args .bytes .now) (start .args .arities) (start .args .many) (start .args .ts) (start .args .ts-nodes) n (start .pre .1 .1 .terms)
-
-  -- Where the nodes of the first argument are counted.
+  -- The first argument that is left, its nodes counted, and the others.
   abbrev start-of : Of lts.After-nodes-at t → Of lts.Start t
-  start-of c = c .before .before .before
+  start-of c = c .before .before .before .before
 
-  parts-of : (c : Of lts.After-nodes-at t) → PartsOf (start-of c) (c .nodes-at .result)
-  parts-of c = parted (c .nodes-at .result) (start-of c .pre .1 .1) (c .before .if1 .left) (c .nodes-at .ensures)
+  abbrev PartsOf : Of lts.After-nodes-at t → Type 0
+  PartsOf c =
+      let start = start-of c in
+      let head = c .before .before .loop in
+      Parted (start .args .bytes .now) (start .args .arities) (head .left) (head .at) (start .args .ts-nodes) (c .nodes-at .result) (head .inv .0 .terms)
+
+  parts-of : (c : Of lts.After-nodes-at t) → PartsOf c
+  parts-of c = parted (c .nodes-at .result) (c .before .before .loop .inv .0) (c .before .loop-test .taken) (c .nodes-at .ensures)
 
   -- Whether s exceeds it.
   first-exceeded :
@@ -38,54 +51,63 @@ module _ (t : ℕ) where
       let b = parts-of (c .before) .first in
       c .exceeds .ensures (a .term) (b .term) (a .behind) (b .behind) (a .stands) (b .stands)
 
-  returns : Of lts.Need-returns t
-  returns c =
-      let start = c .before .before in
-      let (s, ts) = start .pre .1 in
-      every-for-all (start .args .ranks) true s ts (sym (every-none (start .args .ranks) (none-there ts (c .if1 .taken)) (s .term)))
+  loop-holds : Of lts.Need-loop-holds t
+  loop-holds c = (c .before .pre .1 .1, λ r h. h)
 
   nodes-at-requires : Of lts.Need-nodes-at-requires t
-  nodes-at-requires c κs = first-standing (c .before .before .pre .1 .1) (c .if1 .left)
+  nodes-at-requires c κs = first-standing (c .before .loop .inv .0) (c .loop-test .taken)
 
   exceeds-requires : Of lts.Need-exceeds-requires t
   exceeds-requires c κs =
       let start = start-of c in
       (omega (arith, parts-of c .fits, start .pre .0), (start .pre .1 .0, parts-of c .first))
 
-  mul-later : Of lts.Need-mul-later t
-  mul-later c = omega (arith, parts-of (c .before .before) .inside)
+  returns : Of lts.Need-returns t
+  returns c =
+      let start = start-of (c .before .before) in
+      let head = c .before .before .before .before .loop in
+      let s = start .pre .1 .0 in
+      let less = sym (first-exceeded (c .before)) ∙ not-true (c .before .exceeds .result) (c .if1 .taken) in
+      head .inv .1 false
+      (every-for-all (start .args .ranks) false s (head .inv .0)
+      (sym (every-fails (start .args .ranks) (parts-of (c .before .before) .parts) (s .term) less)))
 
-  add-later : Of lts.Need-add-later t
-  add-later c = omega (arith, parts-of (c .before .before) .inside)
+  mul-at : Of lts.Need-mul-at t
+  mul-at c = omega (arith, parts-of (c .before .before) .inside)
+
+  add-at : Of lts.Need-add-at t
+  add-at c = omega (arith, parts-of (c .before .before) .inside)
 
   sub-left : Of lts.Need-sub-left t
-  sub-left c = parts-of (c .before .before) .fits
+  sub-left c = omega (arith, c .before .before .before .loop-test .taken)
 
-  sub-exceeds-every : Of lts.Need-sub-exceeds-every t
-  sub-exceeds-every c = omega (arith, c .before .before .before .if1 .left)
+  loop-less : Of lts.Need-loop-less t
+  loop-less c = omega (arith, c .before .before .before .loop-test .taken)
 
-  exceeds-every-requires : Of lts.Need-exceeds-every-requires t
-  exceeds-every-requires c κs =
+  loop-again : Of lts.Need-loop-again t
+  loop-again c =
       let start = start-of (c .before .before) in
+      let head = c .before .before .before .before .loop in
+      let s = start .pre .1 .0 in
       let parts = parts-of (c .before .before) in
-      (omega (arith, parts .some, parts .fits, start .pre .0), (start .pre .1 .0, parts .others))
+      let rest = parts .others in
+      let more = sym (first-exceeded (c .before)) ∙ not-false (c .before .exceeds .result) (c .if1 .left) in (
+        wider rest (omega arith),
+        λ r h.
+            head .inv .1 r
+            (every-for-all (start .args .ranks) r s (head .inv .0)
+            (h (s .term) (rest .terms) (s .behind) (rest .behind) (s .stands) (rest .stand)
+            ∙ sym (every-later (start .args .ranks) (parts .parts) (s .term) more))),
+      )
 
   returns-2 : Of lts.Need-returns-2 t
   returns-2 c =
-      let start = start-of (c .before .before .before) in
-      let (s, ts) = start .pre .1 in
-      let parts = parts-of (c .before .before .before) in
-      let rest = parts .others in
-      every-for-all (start .args .ranks) (c .exceeds-every .result) s ts
-      (c .exceeds-every .ensures (s .term) (rest .terms) (s .behind) (rest .behind) (s .stands) (rest .stand)
-      ∙ sym (every-later (start .args .ranks) (parts .parts) (s .term) (sym (first-exceeded (c .before .before)) ∙ c .before .if2 .taken)))
-
-  returns-3 : Of lts.Need-returns-3 t
-  returns-3 c =
-      let start = start-of (c .before .before) in
-      let (s, ts) = start .pre .1 in
-      every-for-all (start .args .ranks) false s ts
-      (sym (every-fails (start .args .ranks) (parts-of (c .before .before) .parts) (s .term) (sym (first-exceeded (c .before)) ∙ c .if2 .left)))
+      let start = c .before .before .before in
+      let head = c .before .loop in
+      let s = start .pre .1 .0 in
+      head .inv .1 true
+      (every-for-all (start .args .ranks) true s (head .inv .0)
+      (sym (every-none (start .args .ranks) (none-there (head .inv .0) (c .loop-test .left)) (s .term))))
 
 pub met : {M : Type 1} (t : ℕ) → lts.Closed (exceeds-every-calls t) (exceeds-every-at t) reads.Post M
-met t = lts.spec (exceeds-every-calls t) (exceeds-every-at t) reads.Post (returns t) (nodes-at-requires t) (exceeds-requires t) (mul-later t) (add-later t) (sub-left t) (sub-exceeds-every t) (exceeds-every-requires t) (returns-2 t) (returns-3 t)
+met t = lts.spec (exceeds-every-calls t) (exceeds-every-at t) reads.Post Inv-loop μ-loop (loop-holds t) (nodes-at-requires t) (exceeds-requires t) (returns t) (mul-at t) (add-at t) (sub-left t) (loop-less t) (loop-again t) (returns-2 t)

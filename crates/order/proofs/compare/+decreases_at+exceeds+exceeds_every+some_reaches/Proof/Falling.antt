@@ -1,5 +1,5 @@
--- The number that falls over the cycle: twice the node counts of both sides together, and one more for the argument lists, whose
--- first argument may be as large as the list. What each function is given at a number t, and what its calls ask below t.
+-- The number that falls over the cycle: twice the node counts of both sides together, and one more for the argument lists, an
+-- argument of which may be as large as the list. What each function is given at a number t, and what its calls ask below t.
 -- Assumes nothing.
 use Prim.Native.Nat.{ℕ, _+_, _*_, _<_}
 use borrow.Fn.Kinds.{In}
@@ -62,10 +62,10 @@ module _ (t : ℕ) where
   exceeds-calls = (root-at.Asked, root-at.Learnt, some-reaches-below, some-reaches.Post, higher.Asked, higher.Learnt, exceeds-every-below, exceeds-every.Post, decreases-at-below, decreases-at.Post)
 
   abbrev pub some-reaches-calls : some-reaches-lts.Claims
-  some-reaches-calls = (same-at.Asked, same-at.Learnt, nodes-at.Asked, nodes-at.Learnt, exceeds-below, exceeds.Post, some-reaches-below, some-reaches.Post)
+  some-reaches-calls = (same-at.Asked, same-at.Learnt, nodes-at.Asked, nodes-at.Learnt, exceeds-below, exceeds.Post)
 
   abbrev pub exceeds-every-calls : exceeds-every-lts.Claims
-  exceeds-every-calls = (nodes-at.Asked, nodes-at.Learnt, exceeds-below, exceeds.Post, exceeds-every-below, exceeds-every.Post)
+  exceeds-every-calls = (nodes-at.Asked, nodes-at.Learnt, exceeds-below, exceeds.Post)
 
   abbrev pub decreases-at-calls : decreases-at-lts.Claims
   decreases-at-calls = (nodes-at.Asked, nodes-at.Learnt, same-at.Asked, same-at.Learnt, decreases-at-below, decreases-at.Post, exceeds-below, exceeds.Post, exceeds-every-below, exceeds-every.Post)
