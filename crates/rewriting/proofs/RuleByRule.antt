@@ -11,13 +11,20 @@ use lib.ListN.{length, drop, drop-of-length-le}
 use lib.Seq.{drop-cons}
 use Rattle.term.specs.Term.{Term, var}
 use Rattle.book.specs.Book.{Rule}
+use Rattle.book.specs.declared.Book.{Book as Places}
 use Rattle.rewriting.specs.Fits.{fits}
 use Rattle.rewriting.specs.Step.{rewritten}
 use Rattle.rewriting.specs.Table.{Holds}
-use Rattle.rewriting.specs.Places.{ruleOf, madeBy, Applies, FirstRule}
+use Rattle.rewriting.specs.Places.{ruleOf, madeBy, RulesAt, LeftsAt, Applies, FirstRule}
 use Rattle.rewriting.specs.declared.matching.Match.{Match}
 use Rattle.rewriting.specs.declared.placing.Fit.{Fit}
 use Rattle.rewriting.proofs.OwnStep.{front-rule, later-rules}
+
+-- The left sides of rules that stand there.
+pub lefts-of :
+    {bytes : List ℕ} {places : Places} {rules : List Rule} → RulesAt bytes places rules →
+    LeftsAt bytes (places .arities) (places .rules) (places .«left_at») (places .«left_nodes») rules
+lefts-of h = record { counted = h .counted; few = h .few; lefts = h .lefts; variables = h .variables }
 
 -- The rules before i do not fit s.
 pub record Tried (rules : List Rule) (s : Term) (i : ℕ) : Type 0 where

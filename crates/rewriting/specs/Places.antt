@@ -38,6 +38,18 @@ pub record RulesAt (bytes : List ℕ) (places : Places) (rules : List Rule) : Ty
   pub noNew : (i : ℕ) → i < length rules → (x : ℕ) → Occurs x (ruleOf rules i .right) → Occurs x (ruleOf rules i .left)
   pub nodes : (i : ℕ) → i < length rules → size (ruleOf rules i .right) ≤ 10
 
+-- Of these facts, those that looking for a rule that fits asks: so many left sides stand where the two tables say.
+pub record LeftsAt (bytes arities : List ℕ) (many : ℕ) (starts nodes : List ℕ) (rules : List Rule) : Type 0 where
+  pub counted : many ≡ length rules
+  pub few : length rules ≤ 32
+  pub lefts : (i : ℕ) → i < length rules → At bytes arities (getD starts i 0) (ruleOf rules i .left) (getD starts i 0 + 2 * getD nodes i 0)
+  pub variables : (i : ℕ) → i < length rules → (x : ℕ) → Occurs x (ruleOf rules i .left) → x < 16
+
+-- Some left sides stand there.
+pub record Lefts (bytes arities : List ℕ) (many : ℕ) (starts nodes : List ℕ) : Type 0 where
+  pub rules : List Rule
+  pub stand : LeftsAt bytes arities many starts nodes rules
+
 -- Some rules stand there.
 pub record Ruled (bytes : List ℕ) (places : Places) : Type 0 where
   pub rules : List Rule

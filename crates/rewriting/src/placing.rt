@@ -9,7 +9,7 @@ ghost use lib.ListN.{length};
 ghost use Rattle.term.specs.Term.{Term};
 ghost use Rattle.term.specs.At.{At, Standing};
 ghost use Rattle.book.specs.Book.{Rule};
-ghost use Rattle.rewriting.specs.Places.{RulesAt, Ruled, Whole, FirstRule, FirstPlace};
+ghost use Rattle.rewriting.specs.Places.{LeftsAt, Lefts, RulesAt, Ruled, Whole, FirstRule, FirstPlace};
 
 // A rule with its match; the table says whether it fits.
 pub struct Fit {
@@ -24,17 +24,26 @@ pub struct Place {
     pub fit: Fit,
 }
 
-// The rule with the lowest number that fits the subterm at this place.
-pub fn first_rule(book: &[u8], places: Book, bytes: &[u8], at: usize) -> Fit
-    requires { ⌜ Ruled (now book) places ⌝ }
-    requires { ⌜ Standing (now bytes) (places .arities) at ⌝ }
-    ensures { λ r. ⌜ ((rules : List Rule) (s : Term) (e : ℕ) → RulesAt (now (book .entry)) places rules → At (now (bytes .entry)) (places .arities) at s e → FirstRule (now (bytes .entry)) (places .arities) rules s r) ⌝ }
+// The rule with the lowest number that fits the subterm at this place. The places of the left sides are lent: a read book by value
+// would be copied for every place that is tried.
+pub fn first_rule(
+    book: &[u8],
+    rules: usize,
+    left_at: &[usize; 32],
+    left_nodes: &[usize; 32],
+    arities: [u8; 16],
+    bytes: &[u8],
+    at: usize,
+) -> Fit
+    requires { ⌜ Lefts (now book) arities rules (now «left_at») (now «left_nodes») ⌝ }
+    requires { ⌜ Standing (now bytes) arities at ⌝ }
+    ensures { λ r. ⌜ ((rs : List Rule) (s : Term) (e : ℕ) → LeftsAt (now (book .entry)) arities rules (now («left_at» .entry)) (now («left_nodes» .entry)) rs → At (now (bytes .entry)) arities at s e → FirstRule (now (bytes .entry)) arities rs s r) ⌝ }
 {
     let mut rule = 0;
-    while rule < places.rules {
-        let left = places.left_at[rule];
-        let end = left + 2 * places.left_nodes[rule];
-        let table = matched(book, left, end, bytes, at, places.arities);
+    while rule < rules {
+        let left = left_at[rule];
+        let end = left + 2 * left_nodes[rule];
+        let table = matched(book, left, end, bytes, at, arities);
         if table.fits {
             return Fit { rule, table };
         }
@@ -53,6 +62,9 @@ pub fn first_place(book: &[u8], places: Book, bytes: &[u8]) -> Place
     requires { ⌜ Whole (now bytes) (places .arities) ⌝ }
     ensures { λ r. ⌜ ((rules : List Rule) (t : Term) → RulesAt (now (book .entry)) places rules → At (now (bytes .entry)) (places .arities) 0 t (length (now (bytes .entry))) → FirstPlace (now (bytes .entry)) (places .arities) rules t r) ⌝ }
 {
+    let rules = places.rules;
+    let left_at = places.left_at;
+    let left_nodes = places.left_nodes;
     let arities = places.arities;
     let mut bound = bytes.len();
     let table = nothing_fits();
@@ -64,7 +76,7 @@ pub fn first_place(book: &[u8], places: Book, bytes: &[u8]) -> Place
     };
     let mut at = 0;
     while at < bound {
-        let fit = first_rule(book, places, bytes, at);
+        let fit = first_rule(book, rules, &left_at, &left_nodes, arities, bytes, at);
         if fit.table.fits {
             bound = term::end_of(bytes, arities, at);
             first = Place {

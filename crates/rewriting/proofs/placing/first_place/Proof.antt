@@ -10,18 +10,19 @@ use Rattle.term.specs.Term.{Term}
 use Rattle.term.specs.At.{At, Standing}
 use Rattle.term.proofs.At.{at-root}
 use Rattle.book.specs.Book.{Rule}
-use Rattle.rewriting.specs.Places.{RulesAt}
+use Rattle.rewriting.specs.Places.{LeftsAt}
 use Rattle.rewriting.proofs.Looking.{Looking, look-begins, root, root-within, look-on-to, look-inside-to, look-ends}
+use Rattle.rewriting.proofs.RuleByRule.{lefts-of}
 use Rattle.rewriting.proofs.placing.first_place.Statement.{statement}
 use Rattle.rewriting.proofs.placing.first_place.Tie as tie
 
 abbrev Inv-loop : tie.InvT-loop
-Inv-loop book places bytes arities bound₀ first₀ at₀ bound first at =
-    (rules : List Rule) (t : Term) → RulesAt book places rules → At bytes (places .arities) 0 t (length bytes) →
-    Looking bytes (places .arities) rules t at bound first
+Inv-loop book bytes many left-at left-nodes arities bound₀ first₀ at₀ bound first at =
+    (rules : List Rule) (t : Term) → LeftsAt book arities many left-at left-nodes rules → At bytes arities 0 t (length bytes) →
+    Looking bytes arities rules t at bound first
 
 abbrev μ-loop : tie.MeasureT-loop
-μ-loop book places bytes arities bound₀ first₀ at₀ bound first at = bound - at
+μ-loop book bytes many left-at left-nodes arities bound₀ first₀ at₀ bound first at = bound - at
 
 nothing-fits-requires : tie.Need-nothing-fits-requires Inv-loop μ-loop
 nothing-fits-requires c κs = tt
@@ -32,28 +33,28 @@ loop-holds c rules t h k = look-begins _ (c .nothing-fits .ensures) k
 -- In a turn: the search in the term that stands there.
 module _ (c : tie.In-loop Inv-loop μ-loop) where
   abbrev start : tie.Start Inv-loop μ-loop
-  start = c .before .before .before .before .before .before
+  start = c .before .before .before .before .before .before .before .before
 
   looking :
       Looking (now (start .args .bytes)) (start .args .places .arities) (start .pre .0 .rules) (start .pre .1 .term) (c .before .loop .at) (c .before .loop .bound)
       (c .before .loop .first)
-  looking = c .before .loop .inv (start .pre .0 .rules) (start .pre .1 .term) (start .pre .0 .stand) (start .pre .1 .stands)
+  looking = c .before .loop .inv (start .pre .0 .rules) (start .pre .1 .term) (lefts-of (start .pre .0 .stand)) (start .pre .1 .stands)
 
   here : Standing (now (start .args .bytes)) (start .args .places .arities) (c .before .loop .at)
   here = let first = root looking (c .loop-test .taken) in record { term = first .first; behind = first .behind; stands = first .first-stands }
 
 first-rule-requires : tie.Need-first-rule-requires Inv-loop μ-loop
-first-rule-requires c κs = (start c .pre .0, here c)
+first-rule-requires c κs = let turn = c .before .before in (record { rules = _; stand = lefts-of (start turn .pre .0 .stand) }, here turn)
 
 end-of-requires : tie.Need-end-of-requires Inv-loop μ-loop
-end-of-requires c κs = here (c .before .before)
+end-of-requires c κs = here (c .before .before .before .before)
 
 add-at : tie.Need-add-at Inv-loop μ-loop
-add-at c = let turn = c .before .before in omega (arith, at-root (here turn .stands))
+add-at c = let turn = c .before .before .before .before in omega (arith, at-root (here turn .stands), start turn .good)
 
 loop-less : tie.Need-loop-less Inv-loop μ-loop
 loop-less c =
-    let turn = c .before .before in
+    let turn = c .before .before .before .before in
     let first = root (looking turn) (turn .loop-test .taken) in
     ⊎-elim
     (λ w. omega (arith, w .2, w .1 .ensures (first .first) (first .behind) (first .first-stands), root-within (looking turn) (turn .loop-test .taken), turn .loop-test .taken))
@@ -62,7 +63,7 @@ loop-less c =
 
 loop-again : tie.Need-loop-again Inv-loop μ-loop
 loop-again c rules t h k =
-    let turn = c .before .before in
+    let turn = c .before .before .before .before in
     let in-term = turn .before .loop .inv rules t h k in
     let first = root in-term (turn .loop-test .taken) in
     let told = c .before .first-rule .ensures rules (first .first) (first .behind) h (first .first-stands) in
@@ -74,7 +75,7 @@ loop-again c rules t h k =
     (c .if1 .came)
 
 returns : tie.Need-returns Inv-loop μ-loop
-returns c rules t h k = look-ends (c .before .loop .inv rules t h k) (c .loop-test .left)
+returns c rules t h k = look-ends (c .before .loop .inv rules t (lefts-of h) k) (c .loop-test .left)
 
 pub first-place-spec : {M : Type 1} → statement M
 first-place-spec =

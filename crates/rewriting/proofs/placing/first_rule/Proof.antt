@@ -1,26 +1,26 @@
 -- The lowest rule that fits. The loop's invariant: the rules before do not fit whatever subterm stands there. The measure is how many rules
 -- are left. Assumes nothing.
-use Prim.Native.Nat.{ℕ, _-_, _<_, _≤_}
+use Prim.Native.Nat.{ℕ, _+_, _*_, _-_, _<_, _≤_}
 use mathlib.Core.List.{List}
 use mathlib.Core.Path.{_≡_, sym, _∙_}
 use native.Mathlib.Omega.{arith}
 use denote.Ref.{now}
-use lib.ListN.{length}
+use lib.ListN.{length, getD}
 use Rattle.term.specs.Term.{Term}
 use Rattle.term.specs.At.{At}
 use Rattle.term.proofs.At.{at-within}
 use Rattle.book.specs.Book.{Rule}
-use Rattle.rewriting.specs.Places.{RulesAt, leftEnd}
+use Rattle.rewriting.specs.Places.{LeftsAt}
 use Rattle.rewriting.proofs.RuleByRule.{Tried, none-tried, one-more-tried, this-applies, all-tried}
 use Rattle.rewriting.proofs.placing.first_rule.Statement.{statement}
 use Rattle.rewriting.proofs.placing.first_rule.Tie as tie
 
 abbrev Inv-loop : tie.InvT-loop
-Inv-loop book bytes at places rule₀ rule =
-    (rules : List Rule) (s : Term) (e : ℕ) → RulesAt book places rules → At bytes (places .arities) at s e → Tried rules s rule
+Inv-loop book many left-at left-nodes arities bytes at rule₀ rule =
+    (rules : List Rule) (s : Term) (e : ℕ) → LeftsAt book arities many left-at left-nodes rules → At bytes arities at s e → Tried rules s rule
 
 abbrev μ-loop : tie.MeasureT-loop
-μ-loop book bytes at places rule₀ rule = places .rules - rule
+μ-loop book many left-at left-nodes arities bytes at rule₀ rule = many - rule
 
 loop-holds : tie.Need-loop-holds Inv-loop μ-loop
 loop-holds c rules s e h k = none-tried rules s
@@ -30,13 +30,18 @@ module _ (c : tie.In-loop Inv-loop μ-loop) where
   abbrev start : tie.Start Inv-loop μ-loop
   start = c .before .before .before .before
 
-  in-range : {rules : List Rule} → RulesAt (now (start .args .book)) (start .args .t2) rules → c .before .loop .rule < length rules
+  in-range :
+      {rules : List Rule} →
+      LeftsAt (now (start .args .book)) (start .args .arities) (start .args .rules) (now (start .args .left-at)) (now (start .args .left-nodes)) rules →
+      c .before .loop .rule < length rules
   in-range h = omega (arith, h .counted, c .loop-test .taken)
 
   small : c .before .loop .rule < 32
   small = omega (arith, in-range (start .pre .0 .stand), start .pre .0 .stand .few)
 
-  end-there : leftEnd (start .args .t2) (c .before .loop .rule) ≤ length (now (start .args .book))
+  end-there :
+      getD (now (start .args .left-at)) (c .before .loop .rule) 0 + 2 * getD (now (start .args .left-nodes)) (c .before .loop .rule) 0 ≤
+      length (now (start .args .book))
   end-there = at-within (start .pre .0 .stand .lefts (c .before .loop .rule) (in-range (start .pre .0 .stand)))
 
 mul-left : tie.Need-mul-left Inv-loop μ-loop
@@ -59,7 +64,7 @@ add-end c = omega (arith, end-there (c .before .before))
 
 matched-requires : tie.Need-matched-requires Inv-loop μ-loop
 matched-requires c κs =
-    let turn = c .before .before .before in
+    let turn = c .before .before in
     let rules = start turn .pre .0 in
     let i = turn .before .loop .rule in
     let p = in-range turn (rules .stand) in
@@ -67,20 +72,20 @@ matched-requires c κs =
 
 returns : tie.Need-returns Inv-loop μ-loop
 returns c rules s e h k =
-    let turn = c .before .before .before .before .before in
+    let turn = c .before .before .before .before in
     let i = turn .before .loop .rule in
     let p = in-range turn h in
     this-applies (turn .before .loop .inv rules s e h k) p (c .before .matched .ensures _ s e (h .lefts i p) k) (c .if1 .taken)
 
 add-rule : tie.Need-add-rule Inv-loop μ-loop
-add-rule c = omega (arith, small (c .before .before .before .before .before))
+add-rule c = omega (arith, small (c .before .before .before .before))
 
 loop-less : tie.Need-loop-less Inv-loop μ-loop
 loop-less c = omega arith
 
 loop-again : tie.Need-loop-again Inv-loop μ-loop
 loop-again c rules s e h k =
-    let turn = c .before .before .before .before .before in
+    let turn = c .before .before .before .before in
     let i = turn .before .loop .rule in
     let p = in-range turn h in
     one-more-tried (turn .before .loop .inv rules s e h k) p (sym (c .before .matched .ensures _ s e (h .lefts i p) k .decides) ∙ c .if1 .left)
