@@ -1,33 +1,30 @@
--- An answer in the solvers' usual form is read to literals that give every rank variable the value that it has: its first line is the
--- verdict, its second has a word for each literal, and no variable is named twice. Assumes nothing.
+-- The usual form is one of the forms that solvers print: its literals tell the assignment, and for a readable book it is never too long.
+-- Assumes nothing.
 use Prim.Native.Nat.{ℕ, zero, suc, _+_, _*_, _≤_, _<_}
-use mathlib.Core.Bool.{Bool, true, false, _||_}
-use mathlib.Core.List.{List, [], _∷_, _++_, map, flatMap, append-assoc}
+use mathlib.Core.Bool.{Bool, true, false, not}
+use mathlib.Core.List.{List, [], _∷_, _++_, map, flatMap, append-assoc, append-nil, List·Memᴰ, List·Memᴰ·head, List·Memᴰ·tail}
 use mathlib.Core.Path.{_≡_, refl, sym, ap, subst, _∙_}
-use native.Mathlib.Decide.{decLe, ℕ-discrete}
+use native.Mathlib.Decide.{ℕ-discrete}
+use native.Mathlib.Nat.{le-trans}
 use native.Mathlib.Omega.{arith}
 use lib.ListN.{length, length-append}
-use borrow.Author.Tests.{eq-eqb, ne-eqb}
-use Rattle.reply.specs.Reply.{Refusal, Reply, given, _>>=_, _at_}
 use Rattle.reply.specs.Decimal.{decimal}
-use Rattle.reply.specs.Text.{ascii, sameText, pieces, newline, space, words}
+use Rattle.reply.specs.Text.{ascii}
 use Rattle.reply.proofs.Decimal.{decimal-length}
-use Rattle.reply.proofs.Every.{Every, every-append, every-implied}
-use Rattle.reply.proofs.Words.{piece-first, words-first}
-use Rattle.clauses.specs.Cnf.{Literal, is, isNot, Assignment}
-use Rattle.clauses.specs.Item.{item, literal}
-use Rattle.clauses.specs.File.{literalBytes, clauseBytes}
-use Rattle.clauses.specs.Dimacs.{blank}
-use Rattle.clauses.specs.Numbering.{numbers}
-use Rattle.clauses.proofs.Dimacs.{literal-bytes}
-use Rattle.clauses.proofs.Items.{Within, literalWord, item-literal, word-nonempty, word-no-blank}
-use Rattle.answer.specs.Values.{unclosed, closed, variableOf, names, named, itemAfter, itemsAfter}
-use Rattle.answer.specs.Lines.{Said, nothing, satisfied, values, itemLine, valueLine, lineOf, valuesAfter, lineAfter, linesAfter, whole, readAnswer}
-use Rattle.answer.specs.Ranks.{valued}
-use Rattle.answer.specs.Usual.{trueLiteral, usualAnswer}
-use Rattle.answer.specs.Computing.{computing}
-use Rattle.answer.proofs.Marks.{not-named-not-valued}
-use Rattle.answer.proofs.Naming.{once, other}
+use Rattle.reply.proofs.Every.{Every, every-member}
+use Rattle.term.specs.Tables.{rankBits}
+use Rattle.book.specs.Book.{Book, symbols}
+use Rattle.book.specs.Limits.{WithinLimits}
+use Rattle.clauses.specs.Cnf.{Literal, is, isNot, Assignment, holds}
+use Rattle.clauses.specs.Numbering.{numbers, firstBase}
+use Rattle.clauses.specs.Blocks.{«V»}
+use Rattle.clauses.proofs.Bounds.{variables-at-most}
+use Rattle.clauses.proofs.Numbers.{base-grows}
+use Rattle.clauses.proofs.Numbered.{bits-before-rules}
+use Rattle.answer.specs.Values.{variableOf}
+use Rattle.answer.specs.Printed.{spaced, lastText, printedLines, printedAnswer, allLiterals, timesNamed, Tells}
+use Rattle.answer.specs.Usual.{trueLiteral, usual, usualAnswer}
+use Rattle.answer.proofs.PrintedValues.{named-here, named-elsewhere}
 
 module _ (α : Assignment) where
   own-variable : (v : ℕ) → variableOf (trueLiteral α v) ≡ v
@@ -38,223 +35,121 @@ module _ (α : Assignment) where
       go true e = rw (trueLiteral, e)
       go false e = rw (trueLiteral, e)
 
-  -- A true literal of v in front: v is named and has its value, every other variable is as before.
-  valued-here : (v : ℕ) (ls : List Literal) → valued ls v ≡ false → valued (trueLiteral α v ∷ ls) v ≡ α v
-  unfolding trueLiteral valued
-  valued-here v ls absent = go (α v) refl
+  literal-holds : (v : ℕ) → holds α (trueLiteral α v) ≡ true
+  unfolding trueLiteral holds
+  literal-holds v = go (α v) refl
     where
-      go : (b : Bool) → α v ≡ b → valued (trueLiteral α v ∷ ls) v ≡ α v
-      go true e = rw (trueLiteral, e, eq-eqb v v refl)
-      go false e = rw (trueLiteral, e, absent)
+      go : (b : Bool) → α v ≡ b → holds α (trueLiteral α v) ≡ true
+      go true e = rw (trueLiteral, e) e
+      go false e = rw (trueLiteral, e) (ap not e)
 
-  valued-elsewhere : (v u : ℕ) (ls : List Literal) → (v ≡ u → ⊥) → valued (trueLiteral α v ∷ ls) u ≡ valued ls u
-  unfolding trueLiteral valued
-  valued-elsewhere v u ls d = go (α v) refl
+  -- The literals of `count` variables from `first` on.
+  abbrev inOrder : (first count : ℕ) → List Literal
+  inOrder first count = map (trueLiteral α) (numbers first count)
+
+  -- Each names one of them, and holds.
+  record Fine (low high : ℕ) (l : Literal) : Type 0 where
+    above : low ≤ variableOf l
+    below : variableOf l < high
+    true-there : holds α l ≡ true
+
+  all-fine : (low high first count : ℕ) → low ≤ first → first + count ≤ high → Every (Fine low high) (inOrder first count)
+  unfolding numbers
+  all-fine low high first zero h k = tt
+  all-fine low high first (suc count) h k = (
+    record {
+      above = rw (own-variable first) h;
+      below = rw (own-variable first) (omega arith);
+      true-there = literal-holds first;
+    },
+    all-fine low high (suc first) count (omega arith) (omega arith),
+  )
+
+  -- A variable before the first is not named, and none is named twice.
+  none-before : (v first count : ℕ) → v < first → timesNamed v (inOrder first count) ≡ 0
+  unfolding numbers timesNamed
+  none-before v first zero h = refl
+  none-before v first (suc count) h =
+      named-elsewhere (trueLiteral α first) v (inOrder (suc first) count) (λ e. omega (arith, own-variable first, e))
+      ∙ none-before v (suc first) count (omega arith)
+
+  named-once : (v first count : ℕ) → timesNamed v (inOrder first count) ≤ 1
+  unfolding numbers timesNamed
+  named-once v first zero = omega arith
+  named-once v first (suc count) = go (ℕ-discrete first v) (named-once v (suc first) count)
     where
-      go : (b : Bool) → α v ≡ b → valued (trueLiteral α v ∷ ls) u ≡ valued ls u
-      go true e = rw (trueLiteral, e, ne-eqb v u d)
-      go false e = rw (trueLiteral, e)
+      go : Dec (first ≡ v) → timesNamed v (inOrder (suc first) count) ≤ 1 → timesNamed v (inOrder first (suc count)) ≤ 1
+      go (yes e) behind =
+          omega (arith, named-here (trueLiteral α first) v (inOrder (suc first) count) (own-variable first ∙ e), none-before v (suc first) count (omega arith))
+      go (no d) behind =
+          omega (arith, named-elsewhere (trueLiteral α first) v (inOrder (suc first) count) (λ e. d (sym (own-variable first) ∙ e)), behind)
 
-  names-elsewhere : (v u : ℕ) (ls : List Literal) → (v ≡ u → ⊥) → names u (trueLiteral α v ∷ ls) ≡ names u ls
-  unfolding names
-  names-elsewhere v u ls d = rw (own-variable v, ne-eqb v u d)
-
-  -- Literals that name no variable from `first` on, and give each rank variable before it its value.
-  record Sofar (rankVariables first : ℕ) (ls : List Literal) : Type 0 where
-    fresh : (u : ℕ) → first ≤ u → names u ls ≡ false
-    told : (u : ℕ) → 1 ≤ u → u ≤ rankVariables → u < first → valued ls u ≡ α u
-
-  module _ (fault : Refusal) (variables rankVariables : ℕ) where
-    one-more :
-        (v : ℕ) (ls : List Literal) → Sofar rankVariables v ls →
-        (ls′ : List Literal) × (named fault rankVariables (trueLiteral α v) ls ≡ given (unclosed ls′)) × Sofar rankVariables (suc v) ls′
-    one-more v ls sofar = go (decLe v rankVariables)
-      where
-        taken : Dec (v ≤ rankVariables) → Sofar rankVariables (suc v) (trueLiteral α v ∷ ls)
-        taken d = record {
-          fresh = λ u (h : suc v ≤ u). names-elsewhere v u ls (omega arith) ∙ sofar .fresh u (omega arith);
-          told = λ u low (high : u ≤ rankVariables) (h : u < suc v). value u low high h (ℕ-discrete v u);
-        }
-          where
-            value : (u : ℕ) → 1 ≤ u → u ≤ rankVariables → u < suc v → Dec (v ≡ u) → valued (trueLiteral α v ∷ ls) u ≡ α u
-            value u low high h (yes e) =
-                subst (λ (w : ℕ). valued (trueLiteral α v ∷ ls) w ≡ α w) e
-                (valued-here v ls (not-named-not-valued v ls (sofar .fresh v (omega arith))))
-            value u low high h (no d) = valued-elsewhere v u ls d ∙ sofar .told u low high (omega arith)
-
-        go : Dec (v ≤ rankVariables) → (ls′ : List Literal) × (named fault rankVariables (trueLiteral α v) ls ≡ given (unclosed ls′)) × Sofar rankVariables (suc v) ls′
-        go (yes h) = (
-          trueLiteral α v ∷ ls,
-          once fault rankVariables (trueLiteral α v) ls (rw (own-variable v) h) (rw (own-variable v) (sofar .fresh v (omega arith))),
-          taken (yes h),
-        )
-        go (no h) = (
-          ls,
-          other fault rankVariables (trueLiteral α v) ls (rw (own-variable v) (omega arith)),
-          record {
-            fresh = λ u (k : suc v ≤ u). sofar .fresh u (omega arith);
-            told = λ u low (high : u ≤ rankVariables) k. sofar .told u low high (omega arith);
-          },
-        )
-
-    item-told : (v : ℕ) → 1 ≤ v → v ≤ variables → item variables (literalWord (trueLiteral α v)) ≡ literal (trueLiteral α v)
-    unfolding trueLiteral
-    item-told v low high = go (α v)
-      where
-        within : Within variables v
-        within = record { first = low; last = high }
-
-        go : (b : Bool) → item variables (literalWord (elim b [ true ↦ is v | false ↦ isNot v ])) ≡ literal (elim b [ true ↦ is v | false ↦ isNot v ])
-        go true = item-literal variables (is v) within
-        go false = item-literal variables (isNot v) within
-
-    closed-there : (ls : List Literal) → itemsAfter fault variables rankVariables (unclosed ls) ((48 ∷ []) ∷ []) ≡ given (closed ls)
-    unfolding computing
-    closed-there ls = refl
-
-    next-told :
-        (v : ℕ) → 1 ≤ v → v ≤ variables → (ls ls′ : List Literal) → named fault rankVariables (trueLiteral α v) ls ≡ given (unclosed ls′) →
-        (ws : List (List ℕ)) →
-        itemsAfter fault variables rankVariables (unclosed ls) (literalWord (trueLiteral α v) ∷ ws)
-        ≡ itemsAfter fault variables rankVariables (unclosed ls′) ws
-    unfolding itemsAfter itemAfter _>>=_
-    next-told v low high ls ls′ e ws = rw (itemsAfter, item-told v low high, itemAfter, e)
-
-    all-told :
-        (count first : ℕ) → 1 ≤ first → first + count ≤ suc variables → (ls : List Literal) → Sofar rankVariables first ls →
-        (ls′ : List Literal)
-        × (itemsAfter fault variables rankVariables (unclosed ls) (map literalWord (map (trueLiteral α) (numbers first count)) ++ (48 ∷ []) ∷ [])
-        ≡ given (closed ls′))
-        × Sofar rankVariables (first + count) ls′
-    unfolding numbers
-    all-told zero first low high ls sofar = (ls, closed-there ls, subst (λ (n : ℕ). Sofar rankVariables n ls) place sofar)
-      where
-        place : first ≡ first + 0
-        place = omega arith
-    all-told (suc count) first low high ls sofar =
-        let (ls₁, e₁, sofar₁) = one-more first ls sofar in
-        let (ls₂, e₂, sofar₂) = all-told count (suc first) (omega arith) (omega arith) ls₁ sofar₁ in
-        (ls₂, next-told first low (omega arith) ls ls₁ e₁ _ ∙ e₂, subst (λ (n : ℕ). Sofar rankVariables n ls₂) place sofar₂)
-      where
-        place : suc first + count ≡ first + suc count
-        place = omega arith
-
--- The words of the v line.
-not-blank : (b : ℕ) → blank b ≡ false → (space b ≡ false) × (newline b ≡ false)
-unfolding blank
-not-blank b e = go (space b) (newline b) e
-  where
-    go : (x y : Bool) → (x || y) ≡ false → (x ≡ false) × (y ≡ false)
-    go true y e = absurd (let z : _≡_ {A = ℕ} 0 1 = cc in omega arith)
-    go false y e = (refl, e)
-
-value-words : (ls : List Literal) → words space (flatMap literalBytes ls ++ 48 ∷ []) ≡ map literalWord ls ++ (48 ∷ []) ∷ []
-unfolding flatMap
-value-words [] = unfold computing in refl
-value-words (l ∷ ls) =
-    rw (append-assoc (literalBytes l) (flatMap literalBytes ls) (48 ∷ []), literal-bytes l (flatMap literalBytes ls ++ 48 ∷ []))
-    (words-first space (literalWord l) (word-nonempty l) no-space 32 (flatMap literalBytes ls ++ 48 ∷ []) (unfold computing in refl)
-    ∙ ap (λ (ws : List (List ℕ)). literalWord l ∷ ws) (value-words ls))
-  where
-    no-space : Every (λ b. space b ≡ false) (literalWord l)
-    no-space = every-implied (λ b. blank b ≡ false) (λ b. space b ≡ false) (λ b e. not-blank b e .0) (literalWord l) (word-no-blank l)
-
-no-newline : (ls : List Literal) → Every (λ b. newline b ≡ false) (flatMap literalBytes ls ++ 48 ∷ [])
-unfolding flatMap
-no-newline [] = (unfold computing in refl, tt)
-no-newline (l ∷ ls) =
-    rw (append-assoc (literalBytes l) (flatMap literalBytes ls) (48 ∷ []), literal-bytes l (flatMap literalBytes ls ++ 48 ∷ []))
-    (every-append (λ b. newline b ≡ false) (literalWord l) (32 ∷ flatMap literalBytes ls ++ 48 ∷ [])
-    (every-implied (λ b. blank b ≡ false) (λ b. newline b ≡ false) (λ b e. not-blank b e .1) (literalWord l) (word-no-blank l))
-    (unfold computing in refl, no-newline ls))
-
--- The two lines.
-module _ (ls : List Literal) where
-  valueText : List ℕ
-  valueText = 118 ∷ 32 ∷ flatMap literalBytes ls ++ 48 ∷ []
-
-  as-one-line : clauseBytes ls ≡ (flatMap literalBytes ls ++ 48 ∷ []) ++ 10 ∷ []
-  unfolding computing
-  as-one-line = sym (append-assoc (flatMap literalBytes ls) (48 ∷ []) (10 ∷ []))
-
-  two-lines : pieces newline (ascii "s SATISFIABLE\nv " ++ clauseBytes ls) ≡ ascii "s SATISFIABLE" ∷ valueText ∷ []
-  unfolding computing valueText
-  two-lines =
-      ap (λ (l : List ℕ). ascii "s SATISFIABLE" ∷ pieces newline (118 ∷ 32 ∷ l)) as-one-line
-      ∙ ap (λ (ps : List (List ℕ)). ascii "s SATISFIABLE" ∷ ps) (piece-first newline valueText (refl, (refl, no-newline ls)) 10 [] refl)
-
-  some-items : (ws : List (List ℕ)) (w : List ℕ) → itemLine (ws ++ w ∷ []) ≡ values (ws ++ w ∷ [])
-  unfolding itemLine
-  some-items [] w = refl
-  some-items (x ∷ ws) w = refl
-
-  value-line : lineOf valueText ≡ values (map literalWord ls ++ (48 ∷ []) ∷ [])
-  unfolding valueText
-  value-line = first ∙ ap itemLine (value-words ls) ∙ some-items (map literalWord ls) (48 ∷ [])
+  -- A true one is there.
+  true-there : (v first count : ℕ) → first ≤ v → v < first + count → α v ≡ true → List·Memᴰ (is v) (inOrder first count)
+  unfolding numbers
+  true-there v first zero low high e = absurd (omega arith)
+  true-there v first (suc count) low high e = go (ℕ-discrete first v) (λ (h : suc first ≤ v). true-there v (suc first) count h (omega arith) e)
     where
-      first : lineOf (118 ∷ 32 ∷ flatMap literalBytes ls ++ 48 ∷ []) ≡ itemLine (words space (flatMap literalBytes ls ++ 48 ∷ []))
-      first = unfold lineOf valueLine ascii sameText space in refl
+      go : Dec (first ≡ v) → (suc first ≤ v → List·Memᴰ (is v) (inOrder (suc first) count)) → List·Memᴰ (is v) (inOrder first (suc count))
+      go (yes q) behind = List·Memᴰ·head (subst (λ (u : ℕ). is v ≡ trueLiteral α u) (sym q) here)
+        where
+          here : is v ≡ trueLiteral α v
+          here = unfold trueLiteral in rw (e, trueLiteral)
+      go (no d) behind = List·Memᴰ·tail (behind (omega arith))
 
-  -- Once the items are read to closed values, these are what the answer gives.
-  module _ (variables rankVariables : ℕ) (ls′ : List Literal) where
-    second-line :
-        (l : List ℕ) → lineAfter (13 at 14) variables rankVariables (satisfied (unclosed [])) (lineOf l) ≡ given (satisfied (closed ls′)) →
-        linesAfter variables rankVariables 0 nothing (ascii "s SATISFIABLE" ∷ l ∷ []) ≡ given (satisfied (closed ls′))
-    unfolding computing
-    second-line l e = ap (λ (x : Reply Said). _>>=_ x (λ said. given said)) e
+  literals-tell : (variables rankVariables : ℕ) → rankVariables ≤ variables → Tells variables rankVariables α (inOrder 1 variables)
+  literals-tell variables rankVariables h = record {
+    within = λ l m. let f = fine l m in (f .above, omega (arith, f .below));
+    once = λ v k. named-once v 1 variables;
+    holding = λ l m k. fine l m .true-there;
+    complete = λ v low (high : v ≤ rankVariables) e. true-there v 1 variables low (omega arith) e;
+  }
+    where
+      fine : (l : Literal) → List·Memᴰ l (inOrder 1 variables) → Fine 1 (1 + variables) l
+      fine l m = every-member (Fine 1 (1 + variables)) m (all-fine 1 (1 + variables) 1 variables (omega arith) (omega arith))
 
-    module _ (e : itemsAfter (13 at 14) variables rankVariables (unclosed []) (map literalWord ls ++ (48 ∷ []) ∷ []) ≡ given (closed ls′)) where
-      line-told : lineAfter (13 at 14) variables rankVariables (satisfied (unclosed [])) (lineOf valueText) ≡ given (satisfied (closed ls′))
-      unfolding lineAfter valuesAfter _>>=_
-      line-told = rw (value-line, e)
+-- Every rank variable is a variable of the file.
+pub rank-variables-within : (book : Book) → symbols book * rankBits (symbols book) ≤ «V» book
+unfolding «V»
+rank-variables-within book =
+    le-trans (bits-before-rules (symbols book) (rankBits (symbols book))) (base-grows (firstBase (symbols book) (rankBits (symbols book))) (book .rules))
 
-      read-so : readAnswer variables rankVariables (ascii "s SATISFIABLE\nv " ++ clauseBytes ls) ≡ given ls′
-      unfolding readAnswer _>>=_ whole
-      read-so = rw (two-lines, second-line valueText line-told)
-
--- Every rank variable has the value that the assignment gives it.
-pub usual-read :
-    (variables rankVariables : ℕ) (α : Assignment) →
-    (ls : List Literal)
-    × (readAnswer variables rankVariables (usualAnswer variables α) ≡ given ls)
-    × ((v : ℕ) → 1 ≤ v → v ≤ rankVariables → v ≤ variables → valued ls v ≡ α v)
-unfolding usualAnswer
-usual-read variables rankVariables α =
-    let (ls, e, sofar) = all-told α (13 at 14) variables rankVariables variables 1 (omega arith) (omega arith) [] nobody in (
-      ls,
-      read-so (map (trueLiteral α) (numbers 1 variables)) variables rankVariables ls e,
-      λ v low high (within : v ≤ variables). sofar .told v low high (omega arith),
-    )
-  where
-    nobody : Sofar α rankVariables 1 []
-    nobody = record {
-      fresh = λ u h. unfold names in refl;
-      told = λ u (low : 1 ≤ u) high (h : u < 1). absurd (omega arith);
-    }
+pub usual-tells : (book : Book) (α : Assignment) → Tells («V» book) (symbols book * rankBits (symbols book)) α (allLiterals (usual («V» book) α))
+unfolding allLiterals flatMap
+usual-tells book α = literals-tell α («V» book) (symbols book * rankBits (symbols book)) (rank-variables-within book)
 
 -- Its length: a literal of a variable below 10,000 takes at most six bytes.
-literal-short : (α : Assignment) (v : ℕ) → v < 10000 → length (literalBytes (trueLiteral α v)) ≤ 6
-unfolding trueLiteral literalBytes ascii
+literal-short : (α : Assignment) (v : ℕ) → v < 10000 → length (spaced (trueLiteral α v)) ≤ 6
+unfolding trueLiteral spaced ascii
 literal-short α v h = go (α v)
   where
     four : length (decimal v) ≤ 4
     four = decimal-length v 4 (omega arith) h
 
-    go : (b : Bool) → length (literalBytes (elim b [ true ↦ is v | false ↦ isNot v ])) ≤ 6
-    go true = rw (length-append (decimal v) (32 ∷ [])) (omega (arith, four))
-    go false = rw (length-append (decimal v) (32 ∷ [])) (omega (arith, four))
+    go : (b : Bool) → length (spaced (elim b [ true ↦ is v | false ↦ isNot v ])) ≤ 6
+    go true = omega (arith, four)
+    go false = omega (arith, four)
 
 literals-short :
     (α : Assignment) (count first : ℕ) → first + count ≤ 10000 →
-    length (flatMap literalBytes (map (trueLiteral α) (numbers first count))) ≤ 6 * count
+    length (flatMap spaced (map (trueLiteral α) (numbers first count))) ≤ 6 * count
 unfolding numbers flatMap
 literals-short α zero first h = omega arith
 literals-short α (suc count) first h =
-    rw (length-append (literalBytes (trueLiteral α first)) (flatMap literalBytes (map (trueLiteral α) (numbers (suc first) count))))
+    rw (length-append (spaced (trueLiteral α first)) (flatMap spaced (map (trueLiteral α) (numbers (suc first) count))))
     (omega (arith, literal-short α first (omega arith), literals-short α count (suc first) (omega arith)))
 
-pub usual-short : (variables : ℕ) (α : Assignment) → variables ≤ 7424 → length (usualAnswer variables α) ≤ 65536
-unfolding usualAnswer clauseBytes ascii
-usual-short variables α h =
-    rw (length-append (flatMap literalBytes (map (trueLiteral α) (numbers 1 variables))) (48 ∷ 10 ∷ []))
-    (omega (arith, literals-short α variables 1 (omega arith)))
+-- The text of its two lines.
+pub usual-text :
+    (variables : ℕ) (α : Assignment) →
+    usualAnswer variables α ≡ ascii "s SATISFIABLE\nv" ++ (flatMap spaced (map (trueLiteral α) (numbers 1 variables)) ++ ascii " 0\n")
+unfolding usualAnswer printedAnswer printedLines lastText flatMap ascii
+usual-text variables α =
+    ap (λ (bs : List ℕ). ascii "s SATISFIABLE\nv" ++ bs)
+    (append-nil _ ∙ append-assoc (flatMap spaced (map (trueLiteral α) (numbers 1 variables))) (ascii " 0") (ascii "\n"))
+
+pub usual-short : (book : Book) (α : Assignment) → WithinLimits book → length (usualAnswer («V» book) α) ≤ 65536
+unfolding ascii
+usual-short book α limits =
+    rw (usual-text («V» book) α, length-append (flatMap spaced (map (trueLiteral α) (numbers 1 («V» book)))) (32 ∷ 48 ∷ 10 ∷ []))
+    (omega (arith, variables-at-most book limits, literals-short α («V» book) 1 (omega (arith, variables-at-most book limits))))

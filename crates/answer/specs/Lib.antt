@@ -5,6 +5,7 @@ pub mod Places
 pub mod Items
 pub mod Table
 pub mod Told
+pub mod Printed
 pub mod Usual
 pub mod RankTable
 pub mod Answered

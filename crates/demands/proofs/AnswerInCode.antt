@@ -15,14 +15,15 @@ use Rattle.clauses.specs.Cnf.{Assignment}
 use Rattle.clauses.specs.Blocks.{«V»}
 use Rattle.clauses.specs.File.{clauseProgram}
 use Rattle.answer.specs.Ranks.{ranksFromAnswer}
-use Rattle.answer.specs.Usual.{usualAnswer}
+use Rattle.answer.specs.Printed.{Printed, printedAnswer}
+use Rattle.answer.specs.Usual.{usual, usualAnswer}
 use Rattle.answer.proofs.Checked.{length-ranksOf}
 use Rattle.answer.proofs.UsualBytes.{usual-bytes}
 use Rattle.demands.specs.EntryPoints.{Bytes, answer, bufferAfter, ranksOfAnAnswer}
-use Rattle.demands.specs.Demand2.{SatisfyingAssignment, rankBitsOf, SatisfiableExactlyIfCleared, UsualAnswersAreAccepted}
+use Rattle.demands.specs.Demand2.{SatisfyingAssignment, rankBitsOf, SatisfiableExactlyIfCleared, Prints, PrintedAnswersAreAccepted}
 use Rattle.demands.specs.InCode.{InCode, AsDefined}
 use Rattle.demands.specs.AnswerInCode.{RanksLaid, AnswersInCode}
-use Rattle.demands.proofs.Demand2.{demand2, accepted-clear, ranks-precede}
+use Rattle.demands.proofs.Demand2.{demand2, usual-prints, accepted-clear, ranks-precede}
 use Rattle.demands.proofs.Functions.{ranksFromAnswerInCode}
 use Rattle.demands.proofs.AsDefined.{ranks-from-answer-as-defined}
 
@@ -57,23 +58,24 @@ module _ (code : InCode ranksOfAnAnswer) (as-defined : AsDefined code) where
       let (many, clears) = accepted-clear bytes book text room ranks read ranks-so in
       record { ranks = ranks; counted = counted; many = many; clears = clears; holds = laid-so call bytes text room asked ranks ranks-so }
 
-  usual-laid :
-      (call : code .Call) (bytes : Bytes) (room : ℕ) (book : Book) (α : Assignment) → code .asked call ≡ (bytes, usualAnswer («V» book) α, room) →
-      readBook bytes ≡ given book → SatisfyingAssignment (clauseProgram bytes) α → symbols book ≤ room →
+  printed-laid :
+      (call : code .Call) (bytes : Bytes) (room : ℕ) (book : Book) (α : Assignment) (answer : Printed) →
+      code .asked call ≡ (bytes, printedAnswer answer, room) → readBook bytes ≡ given book → SatisfyingAssignment (clauseProgram bytes) α →
+      Prints book answer α → symbols book ≤ room →
       (code .answered call ≡ given (symbols book)) × (code .after call ≡ laid (given (rankBitsOf book α)) (code .before call))
-  unfolding UsualAnswersAreAccepted rankBitsOf
-  usual-laid call bytes room book α asked read found fits =
-      let so = demand2 .usualAnswers bytes book α room read found fits in (
-        counted-so call bytes (usualAnswer («V» book) α) room asked (rankBitsOf book α) so
+  unfolding PrintedAnswersAreAccepted rankBitsOf
+  printed-laid call bytes room book α answer asked read found prints fits =
+      let so = demand2 .printedAnswers bytes book α answer room read found fits prints in (
+        counted-so call bytes (printedAnswer answer) room asked (rankBitsOf book α) so
             ∙ ap (λ (n : ℕ). given n) (length-ranksOf (symbols book) (rankBits (symbols book)) α),
-        laid-so call bytes (usualAnswer («V» book) α) room asked (rankBitsOf book α) so,
+        laid-so call bytes (printedAnswer answer) room asked (rankBitsOf book α) so,
       )
 
   answers : AnswersInCode code
-  unfolding SatisfiableExactlyIfCleared
+  unfolding SatisfiableExactlyIfCleared usualAnswer
   answers = record {
     accepted = ranks-laid;
-    usual = usual-laid;
+    printed = printed-laid;
     onlyIfCleared = λ call bytes text room count book asked read e.
         let laid-there = ranks-laid call bytes text room count book asked read e in
         ranks-precede book (laid-there .ranks) (laid-there .clears);
@@ -81,7 +83,7 @@ module _ (code : InCode ranksOfAnAnswer) (as-defined : AsDefined code) where
         let (α, found) = demand2 .satisfiable bytes book read .1 p in (
           usualAnswer («V» book) α,
           λ b m. every-member (λ n. n < 256) m (usual-bytes («V» book) α),
-          λ call room asked fits. usual-laid call bytes room book α asked read found fits .0,
+          λ call room asked fits. printed-laid call bytes room book α (usual («V» book) α) asked read found (usual-prints bytes book α read) fits .0,
         );
   }
 

@@ -34,10 +34,11 @@ use Rattle.clauses.proofs.RanksExtend.{clearing-satisfies}
 use Rattle.clauses.proofs.ExtendsUniquely.{extends-uniquely}
 use Rattle.clauses.proofs.Dimacs.{file-reads-back, program-prints}
 use Rattle.answer.specs.Ranks.{ranksFromAnswer}
-use Rattle.answer.specs.Usual.{usualAnswer}
+use Rattle.answer.specs.Usual.{usual, usualAnswer}
 use Rattle.answer.proofs.Checked.{answers-are-checked, length-ranksOf}
+use Rattle.answer.proofs.PrintedRanks.{printed-ranks}
+use Rattle.answer.proofs.Usual.{usual-tells, usual-short}
 use Rattle.answer.proofs.UsualBytes.{usual-bytes}
-use Rattle.answer.proofs.UsualRanks.{usual-ranks}
 use Rattle.rewriting.specs.Step.{OwnSteps}
 use Rattle.rewriting.specs.Run.{Ran, Means, run, runFrom}
 use Rattle.rewriting.proofs.OwnStep.{own-step-is-free}
@@ -53,6 +54,8 @@ use Rattle.demands.specs.Demand2.{
   ExtendOnlyOnce,
   AcceptedExactlyIfDecreasing,
   AnswersAreChecked,
+  Prints,
+  PrintedAnswersAreAccepted,
   UsualAnswersAreAccepted,
   AcceptedAnswer,
   AcceptedAnswerExactlyIfCleared,
@@ -126,13 +129,23 @@ satisfiable-exactly bytes book read = (cleared, assignment)
               (clearing-satisfies book limits ranks many (fit-the-bits book limits ranks below) clears),
         )
 
-usual-accepted : UsualAnswersAreAccepted
-unfolding UsualAnswersAreAccepted rankBitsOf RankBitsClear
-usual-accepted bytes book α room read found fits =
+printed-accepted : PrintedAnswersAreAccepted
+unfolding PrintedAnswersAreAccepted rankBitsOf RankBitsClear
+printed-accepted bytes book α answer room read found fits prints =
     let ranks : List ℕ = ranksOf (symbols book) (rankBits (symbols book)) α in
     let clear : ranksClear book ranks ≡ given tt =
     ranks-clear-exactly book ranks .1 (length-ranksOf (symbols book) (rankBits (symbols book)) α, rank-bits-clear bytes book α read found) in
-    usual-ranks book α room clear fits bytes read
+    printed-ranks book α room clear fits answer (prints .tells) (prints .short) bytes read
+
+-- The usual form is one that is printed.
+pub usual-prints : (bytes : Bytes) (book : Book) (α : Assignment) → readBook bytes ≡ given book → Prints book (usual («V» book) α) α
+unfolding usualAnswer
+usual-prints bytes book α read = record { tells = usual-tells book α; short = usual-short book α (read-within-limits bytes book read) }
+
+usual-accepted : UsualAnswersAreAccepted
+unfolding UsualAnswersAreAccepted PrintedAnswersAreAccepted usualAnswer
+usual-accepted bytes book α room read found fits =
+    printed-accepted bytes book α (usual («V» book) α) room read found fits (usual-prints bytes book α read)
 
 -- Ranks that are accepted clear the book.
 pub accepted-clear :
@@ -177,6 +190,7 @@ demand2 =
       onlyOnce = extend-only-once;
       accepted = accepted-exactly;
       answers = answers-are-checked;
+      printedAnswers = printed-accepted;
       usualAnswers = usual-accepted;
       acceptedAnswer = accepted-answer-exactly;
       runs = run-yields-both;

@@ -10,11 +10,10 @@ use Rattle.book.specs.Reading.{readBook}
 use Rattle.order.specs.Precedence.{Above}
 use Rattle.order.specs.Clearing.{Clears}
 use Rattle.clauses.specs.Cnf.{Assignment}
-use Rattle.clauses.specs.Blocks.{«V»}
 use Rattle.clauses.specs.File.{clauseProgram}
-use Rattle.answer.specs.Usual.{usualAnswer}
+use Rattle.answer.specs.Printed.{Printed, printedAnswer}
 use Rattle.demands.specs.EntryPoints.{Bytes, ranksOfAnAnswer}
-use Rattle.demands.specs.Demand2.{SatisfyingAssignment, SomePrecedenceClears, rankBitsOf}
+use Rattle.demands.specs.Demand2.{SatisfyingAssignment, SomePrecedenceClears, rankBitsOf, Prints}
 use Rattle.demands.specs.InCode.{InCode}
 
 -- "Accepted ranks are written to the first n bytes of the lent buffer; later bytes keep their values": one for each symbol, and they make
@@ -31,10 +30,11 @@ pub record AnswersInCode (code : InCode ranksOfAnAnswer) : Type 1 where
   pub accepted :
       (call : code .Call) (bytes text : Bytes) (room count : ℕ) (book : Book) → code .asked call ≡ (bytes, text, room) →
       readBook bytes ≡ given book → code .answered call ≡ given count → RanksLaid book count (code .before call) (code .after call)
-  -- The usual answer of a satisfying assignment is accepted, and the lent buffer begins with its rank bits.
-  pub usual :
-      (call : code .Call) (bytes : Bytes) (room : ℕ) (book : Book) (α : Assignment) → code .asked call ≡ (bytes, usualAnswer («V» book) α, room) →
-      readBook bytes ≡ given book → SatisfyingAssignment (clauseProgram bytes) α → symbols book ≤ room →
+  -- What a satisfying assignment prints as s and v lines is accepted, and the lent buffer begins with its rank bits.
+  pub printed :
+      (call : code .Call) (bytes : Bytes) (room : ℕ) (book : Book) (α : Assignment) (answer : Printed) →
+      code .asked call ≡ (bytes, printedAnswer answer, room) → readBook bytes ≡ given book → SatisfyingAssignment (clauseProgram bytes) α →
+      Prints book answer α → symbols book ≤ room →
       (code .answered call ≡ given (symbols book)) × (code .after call ≡ laid (given (rankBitsOf book α)) (code .before call))
   -- An answer is accepted only if some strict precedence clears the book ..
   pub onlyIfCleared :

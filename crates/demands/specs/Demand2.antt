@@ -1,5 +1,5 @@
 -- Demand 2: what the clause file, the rank check and a run mean.
-use Prim.Native.Nat.{ℕ, _<_, _≤_, _^_}
+use Prim.Native.Nat.{ℕ, _*_, _<_, _≤_, _^_}
 use mathlib.Core.List.{List, List·Memᴰ}
 use mathlib.Core.Logic.{_↔_}
 use mathlib.Core.Option.{Option, none, some}
@@ -19,6 +19,7 @@ use Rattle.clauses.specs.Blocks.{«V»}
 use Rattle.clauses.specs.File.{clauseProgram}
 use Rattle.clauses.specs.Dimacs.{readDimacs}
 use Rattle.answer.specs.Ranks.{ranksFromAnswer}
+use Rattle.answer.specs.Printed.{Printed, printedAnswer, allLiterals, Tells}
 use Rattle.answer.specs.Usual.{usualAnswer}
 use Rattle.rewriting.specs.Step.{Step, stepOf, OwnSteps}
 use Rattle.rewriting.specs.Run.{Ran, Means, run}
@@ -78,8 +79,21 @@ unfoldable pub AnswersAreChecked : Type 0
 AnswersAreChecked =
     (bytes text : Bytes) (room : ℕ) (ranks : List ℕ) → ranksFromAnswer bytes text room ≡ given ranks → checkRanks bytes ranks ≡ given tt
 
--- The answer of a solver that prints a satisfying assignment, in the solvers' usual form, is accepted, and its ranks are the rank bits. The
--- lent buffer has a byte for each symbol.
+-- An answer that prints an assignment: its literals tell the rank variables as the assignment has them, and it is not too long for refusal
+-- 12.
+pub record Prints (book : Book) (answer : Printed) (α : Assignment) : Type 0 where
+  pub tells : Tells («V» book) (symbols book * rankBits (symbols book)) α (allLiterals answer)
+  pub short : length (printedAnswer answer) ≤ 65536
+
+-- What a satisfying assignment of the clause file prints as s and v lines is accepted, whatever the order of its literals and lines and
+-- whatever c lines stand between them, and its ranks are the rank bits. The lent buffer has a byte for each symbol.
+unfoldable pub PrintedAnswersAreAccepted : Type 0
+PrintedAnswersAreAccepted =
+    (bytes : Bytes) (book : Book) (α : Assignment) (answer : Printed) (room : ℕ) → readBook bytes ≡ given book →
+    SatisfyingAssignment (clauseProgram bytes) α → symbols book ≤ room → Prints book answer α →
+    ranksFromAnswer bytes (printedAnswer answer) room ≡ given (rankBitsOf book α)
+
+-- In the solvers' usual form, all literals in order on one line, it is never too long.
 unfoldable pub UsualAnswersAreAccepted : Type 0
 UsualAnswersAreAccepted =
     (bytes : Bytes) (book : Book) (α : Assignment) (room : ℕ) → readBook bytes ≡ given book → SatisfyingAssignment (clauseProgram bytes) α →
@@ -118,6 +132,7 @@ pub record Demand2 : Type 1 where
   pub onlyOnce : ExtendOnlyOnce
   pub accepted : AcceptedExactlyIfDecreasing
   pub answers : AnswersAreChecked
+  pub printedAnswers : PrintedAnswersAreAccepted
   pub usualAnswers : UsualAnswersAreAccepted
   pub acceptedAnswer : AcceptedAnswerExactlyIfCleared
   pub runs : RunYields
