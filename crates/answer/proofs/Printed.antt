@@ -4,11 +4,10 @@ use Prim.Native.Nat.{ℕ, _+_, _≤_}
 use mathlib.Core.List.{List, [], _∷_, _++_, map, flatMap, append-assoc, append-nil}
 use mathlib.Core.Path.{_≡_, refl, sym, ap, subst, _∙_}
 use lib.ListN.{length}
-use Rattle.reply.specs.Reply.{Refusal, Reply, given, _>>=_, _at_}
+use Rattle.reply.specs.Reply.{Refusal, given, _>>=_, _at_}
 use Rattle.reply.specs.Text.{ascii}
 use Rattle.reply.proofs.Given.{given-bind}
 use Rattle.clauses.specs.Cnf.{Literal, Assignment}
-use Rattle.clauses.proofs.Items.{literalWord}
 use Rattle.answer.specs.Values.{Values, unclosed, closed, itemsAfter}
 use Rattle.answer.specs.Lines.{Said, nothing, satisfied, values, lineOf, valuesAfter, lineAfter, linesAfter, whole, readAnswer}
 use Rattle.answer.specs.Ranks.{valued}
@@ -25,7 +24,7 @@ use Rattle.answer.specs.Printed.{
   printedAnswer,
   lineLiterals,
   allLiterals,
-  Tells,
+  TellsRanks,
 }
 use Rattle.answer.specs.Computing.{computing}
 use Rattle.answer.proofs.PrintedLines.{printed-lines, remark-line, literals-line, last-line}
@@ -108,7 +107,7 @@ module _ (variables rankVariables : ℕ) (α : Assignment) where
   unfolding computing
   verdict-read fault = refl
 
-  answer-read : (a : Printed) → Tells variables rankVariables α (allLiterals a) → Ends 0 nothing (printedLines a)
+  answer-read : (a : Printed) → TellsRanks variables rankVariables α (allLiterals a) → Ends 0 nothing (printedLines a)
   unfolding printedLines allLiterals
   answer-read a tells =
       subst (λ (rs : List (List ℕ)). Ends 0 nothing (map remarkText (a .before) ++ (ascii "s SATISFIABLE" ∷ map lineText (a .lines) ++ lastText (a .last) ∷ rs)))
@@ -121,7 +120,7 @@ module _ (variables rankVariables : ℕ) (α : Assignment) where
 
   -- Every rank variable has the value that the assignment gives it.
   pub printed-read :
-      (a : Printed) → Tells variables rankVariables α (allLiterals a) →
+      (a : Printed) → TellsRanks variables rankVariables α (allLiterals a) →
       (ls : List Literal)
       × (readAnswer variables rankVariables (printedAnswer a) ≡ given ls)
       × ((v : ℕ) → 1 ≤ v → v ≤ rankVariables → valued ls v ≡ α v)

@@ -16,7 +16,7 @@ use Rattle.clauses.specs.Numbering.{ranksOf}
 use Rattle.clauses.specs.Blocks.{«V»}
 use Rattle.answer.specs.Lines.{readAnswer}
 use Rattle.answer.specs.Ranks.{valued, answered, ranksFromAnswer}
-use Rattle.answer.specs.Printed.{Printed, printedAnswer, allLiterals, Tells}
+use Rattle.answer.specs.Printed.{Printed, printedAnswer, allLiterals, TellsRanks}
 use Rattle.answer.proofs.RanksAgree.{ranks-agree}
 use Rattle.answer.proofs.Printed.{printed-read}
 
@@ -36,7 +36,7 @@ module _
     given-checked ranks e = rw (e, decrease)
 
     module _
-        (a : Printed) (tells : Tells («V» book) (symbols book * rankBits (symbols book)) α (allLiterals a))
+        (a : Printed) (tells : TellsRanks («V» book) (symbols book * rankBits (symbols book)) α (allLiterals a))
         (short : length (printedAnswer a) ≤ 65536)
       where
         printed-answered : answered book (printedAnswer a) room ≡ given (ranksOf (symbols book) (rankBits (symbols book)) α)

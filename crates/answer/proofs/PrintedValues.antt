@@ -1,6 +1,6 @@
 -- Literals that tell the rank variables of an assignment are read, word by word, to literals that give each rank variable its value: none
 -- is named before, and what was read and what follows tell them together. Assumes nothing.
-use Prim.Native.Nat.{ℕ, suc, _+_, _≤_, _<_}
+use Prim.Native.Nat.{ℕ, suc, _+_, _≤_}
 use mathlib.Core.Bool.{Bool, true, false, _||_}
 use mathlib.Core.List.{List, [], _∷_, _++_, map, List·Memᴰ, List·Memᴰ·head, List·Memᴰ·tail, List·Memᴰ·not-nil}
 use mathlib.Core.Path.{_≡_, refl, sym, ap, subst, _∙_}
@@ -11,12 +11,11 @@ use borrow.Author.Tests.{eq-eqb, ne-eqb}
 use Rattle.reply.specs.Reply.{Refusal, given, _>>=_}
 use Rattle.reply.proofs.Every.{Every, every-of-members}
 use Rattle.clauses.specs.Cnf.{Literal, is, isNot, Assignment, holds}
-use Rattle.clauses.specs.Item.{item, literal}
 use Rattle.clauses.proofs.Items as Items
 use Rattle.clauses.proofs.Items.{Within, literalWord, item-literal}
 use Rattle.answer.specs.Values.{unclosed, variableOf, names, named, itemAfter, itemsAfter}
 use Rattle.answer.specs.Ranks.{valued}
-use Rattle.answer.specs.Printed.{timesNamed, Tells}
+use Rattle.answer.specs.Printed.{timesNamed, TellsRanks}
 use Rattle.answer.proofs.Naming.{once, other}
 
 -- How often a literal's own variable, and another one, is named with it.
@@ -90,7 +89,7 @@ module _ (variables rankVariables : ℕ) (α : Assignment) where
     pub told : (v : ℕ) → 1 ≤ v → v ≤ rankVariables → (valued rest v || valued had v) ≡ α v
 
   -- Nothing was read yet.
-  pub none-yet : (ls : List Literal) → Tells variables rankVariables α ls → Sofar [] ls
+  pub none-yet : (ls : List Literal) → TellsRanks variables rankVariables α ls → Sofar [] ls
   none-yet ls tells = record { within = every-of-members _ ls inside; once = few; told = value }
     where
       inside : (l : Literal) → List·Memᴰ l ls → Within variables (Items.variableOf l)

@@ -22,7 +22,7 @@ use Rattle.clauses.proofs.Bounds.{variables-at-most}
 use Rattle.clauses.proofs.Numbers.{base-grows}
 use Rattle.clauses.proofs.Numbered.{bits-before-rules}
 use Rattle.answer.specs.Values.{variableOf}
-use Rattle.answer.specs.Printed.{spaced, lastText, printedLines, printedAnswer, allLiterals, timesNamed, Tells}
+use Rattle.answer.specs.Printed.{spaced, lastText, printedLines, printedAnswer, allLiterals, timesNamed, TellsRanks}
 use Rattle.answer.specs.Usual.{trueLiteral, usual, usualAnswer}
 use Rattle.answer.proofs.PrintedValues.{named-here, named-elsewhere}
 
@@ -97,7 +97,7 @@ module _ (α : Assignment) where
           here = unfold trueLiteral in rw (e, trueLiteral)
       go (no d) behind = List·Memᴰ·tail (behind (omega arith))
 
-  literals-tell : (variables rankVariables : ℕ) → rankVariables ≤ variables → Tells variables rankVariables α (inOrder 1 variables)
+  literals-tell : (variables rankVariables : ℕ) → rankVariables ≤ variables → TellsRanks variables rankVariables α (inOrder 1 variables)
   literals-tell variables rankVariables h = record {
     within = λ l m. let f = fine l m in (f .above, omega (arith, f .below));
     once = λ v k. named-once v 1 variables;
@@ -114,7 +114,7 @@ unfolding «V»
 rank-variables-within book =
     le-trans (bits-before-rules (symbols book) (rankBits (symbols book))) (base-grows (firstBase (symbols book) (rankBits (symbols book))) (book .rules))
 
-pub usual-tells : (book : Book) (α : Assignment) → Tells («V» book) (symbols book * rankBits (symbols book)) α (allLiterals (usual («V» book) α))
+pub usual-tells : (book : Book) (α : Assignment) → TellsRanks («V» book) (symbols book * rankBits (symbols book)) α (allLiterals (usual («V» book) α))
 unfolding allLiterals flatMap
 usual-tells book α = literals-tell α («V» book) (symbols book * rankBits (symbols book)) (rank-variables-within book)
 

@@ -65,7 +65,7 @@ timesNamed v (l ∷ ls) = elim (eqb (variableOf l) v) [ true ↦ suc (timesNamed
 
 -- Literals of the variables 1 to V that tell the rank variables, 1 to n·k, as an assignment has them. Those that are false may be left
 -- out; of the other variables nothing is asked.
-pub record Tells (variables rankVariables : ℕ) (α : Assignment) (ls : List Literal) : Type 0 where
+pub record TellsRanks (variables rankVariables : ℕ) (α : Assignment) (ls : List Literal) : Type 0 where
   -- "a number from 1 to V"
   pub within : (l : Literal) → List·Memᴰ l ls → (1 ≤ variableOf l) × (variableOf l ≤ variables)
   -- "A rank variable (a bit's) may be named once"

@@ -19,7 +19,7 @@ use Rattle.clauses.specs.Blocks.{«V»}
 use Rattle.clauses.specs.File.{clauseProgram}
 use Rattle.clauses.specs.Dimacs.{readDimacs}
 use Rattle.answer.specs.Ranks.{ranksFromAnswer}
-use Rattle.answer.specs.Printed.{Printed, printedAnswer, allLiterals, Tells}
+use Rattle.answer.specs.Printed.{Printed, printedAnswer, allLiterals, TellsRanks}
 use Rattle.answer.specs.Usual.{usualAnswer}
 use Rattle.rewriting.specs.Step.{Step, stepOf, OwnSteps}
 use Rattle.rewriting.specs.Run.{Ran, Means, run}
@@ -82,7 +82,7 @@ AnswersAreChecked =
 -- An answer that prints an assignment: its literals tell the rank variables as the assignment has them, and it is not too long for refusal
 -- 12.
 pub record Prints (book : Book) (answer : Printed) (α : Assignment) : Type 0 where
-  pub tells : Tells («V» book) (symbols book * rankBits (symbols book)) α (allLiterals answer)
+  pub tells : TellsRanks («V» book) (symbols book * rankBits (symbols book)) α (allLiterals answer)
   pub short : length (printedAnswer answer) ≤ 65536
 
 -- What a satisfying assignment of the clause file prints as s and v lines is accepted, whatever the order of its literals and lines and
