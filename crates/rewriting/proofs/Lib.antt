@@ -1,5 +1,6 @@
 pub mod Cases
 pub mod Fits
+pub mod Alike
 pub mod Joined
 pub mod Binding
 pub mod NodeByNode

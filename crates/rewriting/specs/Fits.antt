@@ -39,3 +39,9 @@ matching left s = bound (standing left s)
 -- The test: the match makes the left side identical to s; "a variable that occurs twice needs identical terms".
 unfoldable pub fits : (left s : Term) → Bool
 fits left s = same (replace (matching left s) left) s
+
+-- Whether a left side begins with a variable, or with the symbol of s: otherwise it can't fit.
+unfoldable pub beginsAlike : (left s : Term) → Bool
+beginsAlike (var x) s = true
+beginsAlike (app f ls) (var y) = false
+beginsAlike (app f ls) (app g ss) = eqb f g

@@ -1,9 +1,12 @@
 // Whether a rule's left side fits a subterm, and the match that makes it fit.
 ghost use mathlib.Core.Bool.{false};
 ghost use mathlib.Core.Path.{_≡_};
-ghost use Prim.Native.Nat.{ℕ, _<_};
+ghost use mathlib.Core.List.{List};
+ghost use Prim.Native.Nat.{ℕ, _+_, _<_};
+ghost use lib.ListN.{length};
 ghost use Rattle.term.specs.Term.{Term};
 ghost use Rattle.term.specs.At.{At, Standing};
+ghost use Rattle.rewriting.specs.Fits.{beginsAlike};
 ghost use Rattle.rewriting.specs.Table.{nothingBound, Meets, TableAt, LeftAt, Holds};
 
 // "A table of 16 places, one for each variable, holds the match": where each variable's term starts in the bytes, and which
@@ -56,6 +59,22 @@ fn meet(bytes: &[u8], arities: [u8; 16], table: Match, x: usize, place: usize) -
     after.bound[x] = true;
     after.starts[x] = place;
     after
+}
+
+// Whether a left side begins with a variable, or with the symbol of the subterm at this place: otherwise it can't fit, and no table
+// need be made.
+pub fn begins_alike(book: &[u8], left: usize, bytes: &[u8], at: usize) -> bool
+    requires { ⌜ left + 1 < length (now book) ⌝ }
+    requires { ⌜ at + 1 < length (now bytes) ⌝ }
+    ensures { λ r. ⌜ ((arities : List ℕ) (l s : Term) (d e : ℕ) → At (now (book .entry)) arities left l d → At (now (bytes .entry)) arities at s e → r ≡ beginsAlike l s) ⌝ }
+{
+    if book[left] != 3 {
+        return true;
+    }
+    if bytes[at] != 3 {
+        return false;
+    }
+    book[left + 1] == bytes[at + 1]
 }
 
 // The left side from left_at to left_end against the subterm at this place, node by node up to the first that does not fit.

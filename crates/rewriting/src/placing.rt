@@ -1,5 +1,6 @@
 // The place of a step: "the first place in postorder at which some rule fits, and there the rule with the lowest number".
 use crate::matching::Match;
+use crate::matching::begins_alike;
 use crate::matching::matched;
 use crate::matching::nothing_fits;
 use book::Book;
@@ -42,10 +43,12 @@ pub fn first_rule(
     let mut rule = 0;
     while rule < rules {
         let left = left_at[rule];
-        let end = left + 2 * left_nodes[rule];
-        let table = matched(book, left, end, bytes, at, arities);
-        if table.fits {
-            return Fit { rule, table };
+        if begins_alike(book, left, bytes, at) {
+            let end = left + 2 * left_nodes[rule];
+            let table = matched(book, left, end, bytes, at, arities);
+            if table.fits {
+                return Fit { rule, table };
+            }
         }
         rule += 1;
     }

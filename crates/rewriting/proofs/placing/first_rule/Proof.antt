@@ -2,15 +2,17 @@
 -- are left. Assumes nothing.
 use Prim.Native.Nat.{ℕ, _+_, _*_, _-_, _<_, _≤_}
 use mathlib.Core.List.{List}
+use mathlib.Core.Logic.{⊎-elim}
 use mathlib.Core.Path.{_≡_, sym, _∙_}
 use native.Mathlib.Omega.{arith}
 use denote.Ref.{now}
 use lib.ListN.{length, getD}
 use Rattle.term.specs.Term.{Term}
 use Rattle.term.specs.At.{At}
-use Rattle.term.proofs.At.{at-within}
+use Rattle.term.proofs.At.{at-root, at-within}
 use Rattle.book.specs.Book.{Rule}
 use Rattle.rewriting.specs.Places.{LeftsAt}
+use Rattle.rewriting.proofs.Alike.{begins-otherwise}
 use Rattle.rewriting.proofs.RuleByRule.{Tried, none-tried, one-more-tried, this-applies, all-tried}
 use Rattle.rewriting.proofs.placing.first_rule.Statement.{statement}
 use Rattle.rewriting.proofs.placing.first_rule.Tie as tie
@@ -50,21 +52,27 @@ mul-left c = omega (arith, small c)
 element-copy-out-left : tie.Need-element-copy-out-left Inv-loop μ-loop
 element-copy-out-left c = small c
 
+begins-alike-requires : tie.Need-begins-alike-requires Inv-loop μ-loop
+begins-alike-requires c κs =
+    let turn = c .before in
+    let rules = start turn .pre .0 in
+    (at-root (rules .stand .lefts (turn .before .loop .rule) (in-range turn (rules .stand))), at-root (start turn .pre .1 .stands))
+
 mul-end : tie.Need-mul-end Inv-loop μ-loop
-mul-end c = omega (arith, small (c .before))
+mul-end c = omega (arith, small (c .before .before .before))
 
 element-copy-out-end : tie.Need-element-copy-out-end Inv-loop μ-loop
-element-copy-out-end c = small (c .before)
+element-copy-out-end c = small (c .before .before .before)
 
 mul-end-2 : tie.Need-mul-end-2 Inv-loop μ-loop
-mul-end-2 c = omega (arith, end-there (c .before .before))
+mul-end-2 c = omega (arith, end-there (c .before .before .before .before))
 
 add-end : tie.Need-add-end Inv-loop μ-loop
-add-end c = omega (arith, end-there (c .before .before))
+add-end c = omega (arith, end-there (c .before .before .before .before))
 
 matched-requires : tie.Need-matched-requires Inv-loop μ-loop
 matched-requires c κs =
-    let turn = c .before .before in
+    let turn = c .before .before .before .before in
     let rules = start turn .pre .0 in
     let i = turn .before .loop .rule in
     let p = in-range turn (rules .stand) in
@@ -72,23 +80,28 @@ matched-requires c κs =
 
 returns : tie.Need-returns Inv-loop μ-loop
 returns c rules s e h k =
-    let turn = c .before .before .before .before in
+    let turn = c .before .before .before .before .before .before in
     let i = turn .before .loop .rule in
     let p = in-range turn h in
-    this-applies (turn .before .loop .inv rules s e h k) p (c .before .matched .ensures _ s e (h .lefts i p) k) (c .if1 .taken)
+    this-applies (turn .before .loop .inv rules s e h k) p (c .before .matched .ensures _ s e (h .lefts i p) k) (c .if2 .taken)
 
 add-rule : tie.Need-add-rule Inv-loop μ-loop
-add-rule c = omega (arith, small (c .before .before .before .before))
+add-rule c = omega (arith, small (c .before .before .before))
 
 loop-less : tie.Need-loop-less Inv-loop μ-loop
 loop-less c = omega arith
 
+-- The rule does not fit: the match failed, or it was passed over.
 loop-again : tie.Need-loop-again Inv-loop μ-loop
 loop-again c rules s e h k =
-    let turn = c .before .before .before .before in
-    let i = turn .before .loop .rule in
+    let turn = c .before .before .before in
     let p = in-range turn h in
-    one-more-tried (turn .before .loop .inv rules s e h k) p (sym (c .before .matched .ensures _ s e (h .lefts i p) k .decides) ∙ c .if1 .left)
+    let left = h .lefts (turn .before .loop .rule) p in
+    one-more-tried (turn .before .loop .inv rules s e h k) p
+    (⊎-elim
+    (λ w. sym (w .2 .ensures _ s e left k .decides) ∙ w .3 .left)
+    (λ w. begins-otherwise _ s (sym (c .before .begins-alike .ensures _ _ s _ e left k) ∙ w .left))
+    (c .if1 .came))
 
 nothing-fits-requires : tie.Need-nothing-fits-requires Inv-loop μ-loop
 nothing-fits-requires c κs = tt
@@ -106,6 +119,7 @@ first-rule-spec =
     loop-holds
     mul-left
     element-copy-out-left
+    begins-alike-requires
     mul-end
     element-copy-out-end
     mul-end-2
