@@ -12,6 +12,7 @@ use Rattle.book.specs.declared.Book.{Book as PlacedBook}
 use Rattle.book.specs.declared.BookVerdict.{BookVerdict}
 use Rattle.book.specs.declared.BookVerdict.the-variants.{Readable, Ended, UnknownKind, NotAllowed, BadBody, TooMany, AfterEnd}
 use Rattle.book.specs.declared.ReadBook.{ReadBook}
+use Rattle.book.specs.declared.Refused.{Refused}
 
 -- The node of two bytes: "3 symbol node, body the symbol number; 4 variable node, body the variable number".
 unfoldable pub nodeOf : (kind body : ℕ) → Node
@@ -57,3 +58,12 @@ told (AfterEnd p) book = refused (6 at p)
 
 unfoldable pub meaning : (bytes : List ℕ) → ReadBook → Reply Book
 meaning bytes r = told (r .verdict) (bookAt bytes (r .book))
+
+-- "Refusals by number": a refusal's number and place; 0 and 0 where something was given, as no refusal has the number 0.
+abbrev pub inNumbers : Reply Book → Refused
+inNumbers (given book) = record { number = 0; place = 0 }
+inNumbers (refused r) = record { number = r .number; place = r .place }
+
+-- The refusal of a book that cannot be read, 1 to 6; 0 at 0 for a readable book, which has none.
+unfoldable pub refusedBy : BookVerdict → Refused
+refusedBy verdict = inNumbers (told verdict (record { arities = []; rules = [] }))

@@ -8,7 +8,7 @@ ghost use Rattle.term.specs.Prefix.{arityOf};
 ghost use Rattle.book.specs.Reading.{known, readBook};
 ghost use Rattle.book.specs.Record.{recordNode, recordEnd, recordTerm};
 ghost use Rattle.book.specs.RecordMeaning.{recordMeaning, recordVerdict, nodeFound, endFound};
-ghost use Rattle.book.specs.Meaning.{nodeOf, meaning};
+ghost use Rattle.book.specs.Meaning.{nodeOf, meaning, refusedBy};
 ghost use Rattle.book.specs.Placed.{nothingRead, sideOpen, noRuleYet, allowed, bodyFits, roomLeft, checked, checkedAs, ended, answer, placed};
 
 // A book that was read, as places in its bytes. Symbol f has arity arities[f]. The left side of rule i stands from left_at[i] on
@@ -281,6 +281,33 @@ pub fn read_book(bytes: &[u8]) -> ReadBook
         }
     }
     refuse(BookVerdict::Ended(bytes.len()))
+}
+
+// "Refusals by number": the number and the place of a refusal.
+pub struct Refused {
+    pub number: u64,
+    pub place: usize,
+}
+
+fn numbered(number: u64, place: usize) -> Refused
+    ensures { λ r. ⌜ r ≡ record { number = number; place = place } ⌝ }
+{
+    Refused { number, place }
+}
+
+// The refusal of a book that cannot be read, 1 to 6; 0 at 0 for a readable book, which has none.
+pub fn refused_by(verdict: BookVerdict) -> Refused
+    ensures { λ r. ⌜ r ≡ refusedBy verdict ⌝ }
+{
+    match verdict {
+        BookVerdict::Readable => numbered(0, 0),
+        BookVerdict::Ended(place) => numbered(1, place),
+        BookVerdict::UnknownKind(place) => numbered(2, place),
+        BookVerdict::NotAllowed(place) => numbered(3, place),
+        BookVerdict::BadBody(place) => numbered(4, place),
+        BookVerdict::TooMany(place) => numbered(5, place),
+        BookVerdict::AfterEnd(place) => numbered(6, place),
+    }
 }
 
 // What reading a record finds: a whole term of so many nodes and then the end, or the first fault with its byte.

@@ -62,17 +62,10 @@ fn print_refusal(number: u64, place: usize) {
     io::write_all(STDOUT_FILENO, b"\n");
 }
 
-// Why a book cannot be read; nothing for a readable one.
+// Why a book cannot be read.
 fn print_verdict(verdict: BookVerdict) {
-    match verdict {
-        BookVerdict::Readable => {}
-        BookVerdict::Ended(place) => print_refusal(1, place),
-        BookVerdict::UnknownKind(place) => print_refusal(2, place),
-        BookVerdict::NotAllowed(place) => print_refusal(3, place),
-        BookVerdict::BadBody(place) => print_refusal(4, place),
-        BookVerdict::TooMany(place) => print_refusal(5, place),
-        BookVerdict::AfterEnd(place) => print_refusal(6, place),
-    }
+    let refused = book::refused_by(verdict);
+    print_refusal(refused.number, refused.place);
 }
 
 // What is printed for the bytes of a book.

@@ -69,15 +69,8 @@ fn refuse(number: u64, place: usize) -> Verdict
 pub fn of_book(verdict: BookVerdict) -> Verdict
     ensures { λ r. ⌜ r ≡ verdictReply (unreadable verdict) ⌝ }
 {
-    match verdict {
-        BookVerdict::Readable => refuse(0, 0),
-        BookVerdict::Ended(place) => refuse(1, place),
-        BookVerdict::UnknownKind(place) => refuse(2, place),
-        BookVerdict::NotAllowed(place) => refuse(3, place),
-        BookVerdict::BadBody(place) => refuse(4, place),
-        BookVerdict::TooMany(place) => refuse(5, place),
-        BookVerdict::AfterEnd(place) => refuse(6, place),
-    }
+    let refused = book::refused_by(verdict);
+    refuse(refused.number, refused.place)
 }
 
 // A book that was not read: the refusal, and no symbols, rules or blocks.

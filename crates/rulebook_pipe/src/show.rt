@@ -55,15 +55,8 @@ pub fn refused(refusal: u64, place: usize) {
     text(b"\n");
 }
 
-// Why a book cannot be read; nothing for a readable one.
+// Why a book cannot be read.
 pub fn unreadable(verdict: BookVerdict) {
-    match verdict {
-        BookVerdict::Readable => {}
-        BookVerdict::Ended(p) => refused(1, p),
-        BookVerdict::UnknownKind(p) => refused(2, p),
-        BookVerdict::NotAllowed(p) => refused(3, p),
-        BookVerdict::BadBody(p) => refused(4, p),
-        BookVerdict::TooMany(p) => refused(5, p),
-        BookVerdict::AfterEnd(p) => refused(6, p),
-    }
+    let why = book::refused_by(verdict);
+    refused(why.number, why.place);
 }
