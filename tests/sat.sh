@@ -1,13 +1,18 @@
 # shellcheck shell=sh
 # Sourced from the repository's root: SAT solvers, as Debian packages them.
 
+# A new machine may have no list of packages yet.
+install() { # PACKAGE
+    apt-get install -y -q "$1" || { apt-get update -q && apt-get install -y -q "$1"; }
+}
+
 # install_missing SOLVER..: where this is root, installs those that are missing; says which could not be. A package has its
 # solver's name, but for cryptominisat5.
 install_missing() {
     for solver in "$@"; do
         command -v "$solver" >/dev/null 2>&1 && continue
         package=${solver%5}
-        if [ "$(id -u)" = 0 ] && apt-get install -y -q "$package" >/dev/null 2>&1; then continue; fi
+        if [ "$(id -u)" = 0 ] && install "$package" >/dev/null 2>&1; then continue; fi
         echo "$0: $solver is not installed; on Debian: apt-get install $package" >&2
     done
 }
