@@ -21,10 +21,10 @@ zero-is-one-digit : decimal 0 ≡ 48 ∷ []
 unfolding computing
 zero-is-one-digit = refl
 
-later-bytes-stay : laid (given (1 ∷ 2 ∷ [])) (7 ∷ 7 ∷ 7 ∷ []) ≡ 1 ∷ 2 ∷ 7 ∷ []
+later-bytes-stay : laid {Cell = ℕ} (given (1 ∷ 2 ∷ [])) (7 ∷ 7 ∷ 7 ∷ []) ≡ 1 ∷ 2 ∷ 7 ∷ []
 unfolding computing
 later-bytes-stay = refl
 
-refusal-keeps-the-buffer : laid (refused (9 at 0)) (7 ∷ 7 ∷ []) ≡ 7 ∷ 7 ∷ []
+refusal-keeps-the-buffer : laid {Cell = ℕ} (refused (9 at 0)) (7 ∷ 7 ∷ []) ≡ 7 ∷ 7 ∷ []
 unfolding computing
 refusal-keeps-the-buffer = refl

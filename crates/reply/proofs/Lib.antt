@@ -1,6 +1,8 @@
 pub mod Cases
 pub mod Tests
 pub mod Given
+pub mod Refusals
+pub mod Settled
 pub mod Every
 pub mod Decimal
 pub mod Words

@@ -5,11 +5,12 @@ use lib.ListN.{length, drop}
 use Rattle.reply.specs.Reply.{Reply, given, refused}
 
 -- "written at the start of the lent buffer .. and keeps the later bytes"; "A refusal leaves lent buffers untouched".
-unfoldable pub laid : Reply (List ℕ) → List ℕ → List ℕ
-laid (given bytes) buffer = bytes ++ drop (length bytes) buffer
+-- A buffer's cells are bytes, or rows of a kind of their own.
+unfoldable pub laid : {Cell : Type 0} → Reply (List Cell) → List Cell → List Cell
+laid (given cells) buffer = cells ++ drop (length cells) buffer
 laid (refused r) buffer = buffer
 
--- "replies with its length": of a reply with bytes, their number.
-unfoldable pub lengthOf : Reply (List ℕ) → Reply ℕ
-lengthOf (given bytes) = given (length bytes)
+-- "replies with its length": of a reply with cells, their number.
+unfoldable pub lengthOf : {Cell : Type 0} → Reply (List Cell) → Reply ℕ
+lengthOf (given cells) = given (length cells)
 lengthOf (refused r) = refused r

@@ -20,6 +20,11 @@ pub data Attempt (R A : Type 0) : Type 0 where
 abbrev pub Reply : Type 0 → Type 0
 Reply A = Attempt Refusal A
 
+-- A reply that says something beside its result or its refusal, as a count of what was tried.
+pub record Beside (S A : Type 0) : Type 0 where
+  pub said : S
+  pub reply : Reply A
+
 module _ {R A B : Type 0} where
   -- "Afterwards": the next question is asked only of what was given. So the lines of a `do` block stand in the order of
   -- the table's refusals.
