@@ -2,15 +2,11 @@
 use Prim.Native.Nat.{ℕ}
 use Prim.Native.String.{String}
 use mathlib.Core.Path.{_≡_, refl}
-use mathlib.Core.List.{List, [], _∷_, List·Memᴰ·not-nil}
-use lib.Dec.{eqb}
+use mathlib.Core.List.{List, [], _∷_}
 use Rattle.reply.specs.Reply.{Reply, given, refused, _at_}
 use Rattle.reply.specs.Text.{ascii}
 use Rattle.book.specs.Examples.{fx-to-gx, onlyEnd}
-use Rattle.clauses.specs.Cnf.{is, isNot}
 use Rattle.answer.specs.Ranks.{ranksFromAnswer}
-use Rattle.answer.specs.Printed.{Remark, remark, literals, printedAnswer}
-use Rattle.answer.specs.Usual.{usualAnswer}
 use Rattle.answer.specs.Computing.{computing}
 
 -- The reply to an answer, with a lent buffer of two bytes.
@@ -88,18 +84,3 @@ the-short-buffer-before-8 = refl
 no-variables-at-all : ranksFromAnswer onlyEnd (ascii "s SATISFIABLE\nv 0\n") 0 ≡ given []
 unfolding computing
 no-variables-at-all = refl
-
--- What is printed.
-bare : Remark
-bare = record { text = []; oneLine = λ b m. absurd (List·Memᴰ·not-nil m) }
-
-printed-so :
-    printedAnswer
-    (record { before = bare ∷ []; lines = literals (is 2) (isNot 1 ∷ []) ∷ remark bare ∷ []; last = is 3 ∷ []; behind = bare ∷ [] })
-    ≡ ascii "c\ns SATISFIABLE\nv 2 -1\nc\nv 3 0\nc\n"
-unfolding computing bare
-printed-so = refl
-
-usual-so : usualAnswer 3 (λ v. eqb v 2) ≡ ascii "s SATISFIABLE\nv -1 2 -3 0\n"
-unfolding computing
-usual-so = refl

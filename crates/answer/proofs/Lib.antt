@@ -16,10 +16,4 @@ pub mod Told
 pub mod RanksAgree
 pub mod RankSums
 pub mod Afterwards
-pub mod PrintedLines
-pub mod PrintedValues
-pub mod Printed
-pub mod Usual
-pub mod PrintedRanks
 pub mod Settled
-pub mod UsualBytes

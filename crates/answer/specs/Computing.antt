@@ -18,11 +18,9 @@ use Rattle.answer.specs.Places.{upTo}
 use Rattle.answer.specs.Items.{within}
 use Rattle.answer.specs.Table.{mark, tableOf, wordAfter}
 use Rattle.answer.specs.Told.{noValues, tabled, assigned, verdictMeaning, meaning}
-use Rattle.answer.specs.Printed.{spaced, remarkText, lineText, lastText, printedLines, printedAnswer, lineLiterals, allLiterals, timesNamed}
-use Rattle.answer.specs.Usual.{trueLiteral, usualAnswer}
 use Rattle.answer.specs.RankTable.{rankTable}
 use Rattle.answer.specs.Answered.{answeredMeaning, ranksChecked}
 
 unfoldable pub computing : Unit {0}
-unfolding Computing.computing variableOf names named itemAfter itemsAfter itemLine valueLine verdictLine lineOf verdictAfter valuesAfter lineAfter linesAfter whole readAnswer valued answered ranksFromAnswer upTo within mark tableOf wordAfter noValues tabled assigned verdictMeaning meaning spaced remarkText lineText lastText printedLines printedAnswer lineLiterals allLiterals timesNamed trueLiteral usualAnswer rankTable answeredMeaning ranksChecked
+unfolding Computing.computing variableOf names named itemAfter itemsAfter itemLine valueLine verdictLine lineOf verdictAfter valuesAfter lineAfter linesAfter whole readAnswer valued answered ranksFromAnswer upTo within mark tableOf wordAfter noValues tabled assigned verdictMeaning meaning rankTable answeredMeaning ranksChecked
 computing = tt

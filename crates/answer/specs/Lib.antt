@@ -5,8 +5,6 @@ pub mod Places
 pub mod Items
 pub mod Table
 pub mod Told
-pub mod Printed
-pub mod Usual
 pub mod RankTable
 pub mod Answered
 pub mod Computing

@@ -15,10 +15,10 @@ use Rattle.clauses.specs.Cnf.{Assignment}
 use Rattle.clauses.specs.Blocks.{«V»}
 use Rattle.clauses.specs.File.{clauseProgram}
 use Rattle.answer.specs.Ranks.{ranksFromAnswer}
-use Rattle.answer.specs.Printed.{Printed, printedAnswer}
-use Rattle.answer.specs.Usual.{usual, usualAnswer}
+use Rattle.printed_answer.specs.Printed.{Printed, printedAnswer}
+use Rattle.printed_answer.specs.Usual.{usual, usualAnswer}
 use Rattle.answer.proofs.Checked.{length-ranksOf}
-use Rattle.answer.proofs.UsualBytes.{usual-bytes}
+use Rattle.printed_answer.proofs.UsualBytes.{usual-bytes}
 use Rattle.demands.specs.EntryPoints.{Bytes, answer, bufferAfter, ranksOfAnAnswer}
 use Rattle.demands.specs.Demand2.{SatisfyingAssignment, rankBitsOf, SatisfiableExactlyIfCleared, Prints, PrintedAnswersAreAccepted}
 use Rattle.demands.specs.InCode.{InCode, AsDefined}

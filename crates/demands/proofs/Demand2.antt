@@ -34,11 +34,11 @@ use Rattle.clauses.proofs.RanksExtend.{clearing-satisfies}
 use Rattle.clauses.proofs.ExtendsUniquely.{extends-uniquely}
 use Rattle.clauses.proofs.Dimacs.{file-reads-back, program-prints}
 use Rattle.answer.specs.Ranks.{ranksFromAnswer}
-use Rattle.answer.specs.Usual.{usual, usualAnswer}
+use Rattle.printed_answer.specs.Usual.{usual, usualAnswer}
 use Rattle.answer.proofs.Checked.{answers-are-checked, length-ranksOf}
-use Rattle.answer.proofs.PrintedRanks.{printed-ranks}
-use Rattle.answer.proofs.Usual.{usual-tells, usual-short}
-use Rattle.answer.proofs.UsualBytes.{usual-bytes}
+use Rattle.printed_answer.proofs.PrintedRanks.{printed-ranks}
+use Rattle.printed_answer.proofs.Usual.{usual-tells, usual-short}
+use Rattle.printed_answer.proofs.UsualBytes.{usual-bytes}
 use Rattle.rewriting.specs.Step.{OwnSteps}
 use Rattle.rewriting.specs.Run.{Ran, Means, run, runFrom}
 use Rattle.rewriting.proofs.OwnStep.{own-step-is-free}

@@ -11,7 +11,7 @@ use Rattle.order.specs.Precedence.{Above}
 use Rattle.order.specs.Clearing.{Clears}
 use Rattle.clauses.specs.Cnf.{Assignment}
 use Rattle.clauses.specs.File.{clauseProgram}
-use Rattle.answer.specs.Printed.{Printed, printedAnswer}
+use Rattle.printed_answer.specs.Printed.{Printed, printedAnswer}
 use Rattle.demands.specs.EntryPoints.{Bytes, ranksOfAnAnswer}
 use Rattle.demands.specs.Demand2.{SatisfyingAssignment, SomePrecedenceClears, rankBitsOf, Prints}
 use Rattle.demands.specs.InCode.{InCode}

@@ -19,8 +19,8 @@ use Rattle.clauses.specs.Blocks.{«V»}
 use Rattle.clauses.specs.File.{clauseProgram}
 use Rattle.clauses.specs.Dimacs.{readDimacs}
 use Rattle.answer.specs.Ranks.{ranksFromAnswer}
-use Rattle.answer.specs.Printed.{Printed, printedAnswer, allLiterals, TellsRanks}
-use Rattle.answer.specs.Usual.{usualAnswer}
+use Rattle.printed_answer.specs.Printed.{Printed, printedAnswer, allLiterals, TellsRanks}
+use Rattle.printed_answer.specs.Usual.{usualAnswer}
 use Rattle.rewriting.specs.Step.{Step, stepOf, OwnSteps}
 use Rattle.rewriting.specs.Run.{Ran, Means, run}
 use Rattle.demands.specs.EntryPoints.{Bytes}

@@ -12,9 +12,9 @@ use Rattle.reply.proofs.Words.{piece-first, words-first}
 use Rattle.clauses.specs.Cnf.{Literal, is, isNot}
 use Rattle.clauses.specs.Dimacs.{blank}
 use Rattle.clauses.proofs.Items.{literalWord, word-nonempty, word-no-blank}
 use Rattle.answer.specs.Lines.{comment, values, itemLine, valueLine, lineOf}
-use Rattle.answer.specs.Printed.{Remark, PrintedLine, remark, literals, Printed, spaced, remarkText, lineText, lastText, printedLines, printedAnswer}
-use Rattle.answer.specs.Computing.{computing}
+use Rattle.printed_answer.specs.Printed.{Remark, PrintedLine, remark, literals, Printed, spaced, remarkText, lineText, lastText, printedLines, printedAnswer}
+use Rattle.printed_answer.specs.Computing.{computing}
 
 -- The text falls into its lines.
 abbrev NoNewline : List ℕ → Type 0

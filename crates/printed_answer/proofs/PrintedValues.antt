@@ -13,10 +13,10 @@ use Rattle.reply.proofs.Every.{Every, every-of-members}
 use Rattle.clauses.specs.Cnf.{Literal, is, isNot, Assignment, holds}
 use Rattle.clauses.proofs.Items as Items
 use Rattle.clauses.proofs.Items.{Within, literalWord, item-literal}
 use Rattle.answer.specs.Values.{unclosed, variableOf, names, named, itemAfter, itemsAfter}
 use Rattle.answer.specs.Ranks.{valued}
-use Rattle.answer.specs.Printed.{timesNamed, TellsRanks}
+use Rattle.printed_answer.specs.Printed.{timesNamed, TellsRanks}
 use Rattle.answer.proofs.Naming.{once, other}
 
 -- How often a literal's own variable, and another one, is named with it.
 pub named-here : (l : Literal) (v : ℕ) (ls : List Literal) → variableOf l ≡ v → timesNamed v (l ∷ ls) ≡ suc (timesNamed v ls)

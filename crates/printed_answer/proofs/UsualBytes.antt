@@ -9,9 +9,9 @@ use Rattle.reply.proofs.Decimal.{Digit, decimal-digits}
 use Rattle.reply.proofs.Every.{Every, every-append, every-implied, every-flatMap, every-of-members}
 use Rattle.clauses.specs.Cnf.{Literal, is, isNot, Assignment}
 use Rattle.clauses.specs.Numbering.{numbers}
-use Rattle.answer.specs.Printed.{spaced}
-use Rattle.answer.specs.Usual.{trueLiteral, usualAnswer}
-use Rattle.answer.proofs.Usual.{usual-text}
+use Rattle.printed_answer.specs.Printed.{spaced}
+use Rattle.printed_answer.specs.Usual.{trueLiteral, usualAnswer}
+use Rattle.printed_answer.proofs.Usual.{usual-text}
 
 abbrev Byte : ℕ → Type 0
 Byte b = b < 256

@@ -21,10 +21,10 @@ use Rattle.clauses.specs.Blocks.{«V»}
 use Rattle.clauses.proofs.Bounds.{variables-at-most}
 use Rattle.clauses.proofs.Numbers.{base-grows}
 use Rattle.clauses.proofs.Numbered.{bits-before-rules}
 use Rattle.answer.specs.Values.{variableOf}
-use Rattle.answer.specs.Printed.{spaced, lastText, printedLines, printedAnswer, allLiterals, timesNamed, TellsRanks}
-use Rattle.answer.specs.Usual.{trueLiteral, usual, usualAnswer}
-use Rattle.answer.proofs.PrintedValues.{named-here, named-elsewhere}
+use Rattle.printed_answer.specs.Printed.{spaced, lastText, printedLines, printedAnswer, allLiterals, timesNamed, TellsRanks}
+use Rattle.printed_answer.specs.Usual.{trueLiteral, usual, usualAnswer}
+use Rattle.printed_answer.proofs.PrintedValues.{named-here, named-elsewhere}
 
 module _ (α : Assignment) where
   own-variable : (v : ℕ) → variableOf (trueLiteral α v) ≡ v

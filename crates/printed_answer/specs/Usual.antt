@@ -4,7 +4,7 @@ use mathlib.Core.Bool.{true, false}
 use mathlib.Core.List.{List, [], map}
 use Rattle.clauses.specs.Cnf.{Literal, is, isNot, Assignment}
 use Rattle.clauses.specs.Numbering.{numbers}
-use Rattle.answer.specs.Printed.{Printed, printedAnswer}
+use Rattle.printed_answer.specs.Printed.{Printed, printedAnswer}
 
 -- The literal of a variable that an assignment makes true.
 unfoldable pub trueLiteral : Assignment → (v : ℕ) → Literal

@@ -8,10 +8,10 @@ use Rattle.reply.specs.Reply.{Refusal, given, _>>=_, _at_}
 use Rattle.reply.specs.Text.{ascii}
 use Rattle.reply.proofs.Given.{given-bind}
 use Rattle.clauses.specs.Cnf.{Literal, Assignment}
 use Rattle.answer.specs.Values.{Values, unclosed, closed, itemsAfter}
 use Rattle.answer.specs.Lines.{Said, nothing, satisfied, values, lineOf, valuesAfter, lineAfter, linesAfter, whole, readAnswer}
 use Rattle.answer.specs.Ranks.{valued}
-use Rattle.answer.specs.Printed.{
+use Rattle.printed_answer.specs.Printed.{
   Remark,
   PrintedLine,
   remark,
@@ -26,9 +26,9 @@ use Rattle.answer.specs.Printed.{
   allLiterals,
   TellsRanks,
 }
-use Rattle.answer.specs.Computing.{computing}
-use Rattle.answer.proofs.PrintedLines.{printed-lines, remark-line, literals-line, last-line}
-use Rattle.answer.proofs.PrintedValues.{Sofar, none-yet, all-read, literals-read}
+use Rattle.printed_answer.specs.Computing.{computing}
+use Rattle.printed_answer.proofs.PrintedLines.{printed-lines, remark-line, literals-line, last-line}
+use Rattle.printed_answer.proofs.PrintedValues.{Sofar, none-yet, all-read, literals-read}
 
 module _ (variables rankVariables : ℕ) (α : Assignment) where
   -- From here on the lines are read to closed values, and these give every rank variable its value.

@@ -14,11 +14,11 @@ use Rattle.order.specs.Clearing.{allDecrease, ranksClear}
 use Rattle.clauses.specs.Cnf.{Assignment}
 use Rattle.clauses.specs.Numbering.{ranksOf}
 use Rattle.clauses.specs.Blocks.{«V»}
 use Rattle.answer.specs.Lines.{readAnswer}
 use Rattle.answer.specs.Ranks.{valued, answered, ranksFromAnswer}
-use Rattle.answer.specs.Printed.{Printed, printedAnswer, allLiterals, TellsRanks}
+use Rattle.printed_answer.specs.Printed.{Printed, printedAnswer, allLiterals, TellsRanks}
 use Rattle.answer.proofs.RanksAgree.{ranks-agree}
-use Rattle.answer.proofs.Printed.{printed-read}
+use Rattle.printed_answer.proofs.Printed.{printed-read}
 
 module _
     (book : Book) (α : Assignment) (room : ℕ)

@@ -1,0 +1,1 @@
+// An answer as solvers print it: definitions in specs/, laws in proofs/. No code of its own.
