@@ -7,9 +7,10 @@ use Rattle.reply.specs.Reply.{Reply, Attempt, given, refused, toldAs, _at_}
 use Rattle.term.specs.Term.{Term, Args, var, app, nil, cons}
 use Rattle.book.specs.Book.{Book, Rule}
 use Rattle.book.specs.Reading.{readBook}
-use Rattle.book.specs.Record.{Fault, endedEarly, wrongKind, notDeclared, tooManyNodes, afterTheTerm, recordTerm, readRecord}
+use Rattle.book.specs.Record.{recordTerm, readRecord}
 use Rattle.book.specs.Examples.{fx-to-gx, adding, oneAndNone}
 use Rattle.book.specs.Computing.{computing}
+use Rattle.book.specs.declared.RecordFault.the-variants.{EndedEarly, WrongKind, NotDeclared, TooManyNodes, AfterTheTerm}
 
 reads-a-rule : readBook fx-to-gx ≡ given (record { arities = 1 ∷ 1 ∷ []; rules = record { left = app 0 (cons (var 0) nil); right = app 1 (cons (var 0) nil) } ∷ [] })
 unfolding computing
@@ -73,19 +74,19 @@ a-record : recordTerm (0 ∷ 1 ∷ 2 ∷ []) oneAndNone ≡ given (app 2 (cons (
 unfolding computing
 a-record = refl
 
-record-ended-early : recordTerm (0 ∷ 1 ∷ 2 ∷ []) (3 ∷ 1 ∷ 3 ∷ []) ≡ refused (endedEarly 3)
+record-ended-early : recordTerm (0 ∷ 1 ∷ 2 ∷ []) (3 ∷ 1 ∷ 3 ∷ []) ≡ refused (EndedEarly 3)
 unfolding computing
 record-ended-early = refl
 
-record-without-its-end : recordTerm (0 ∷ 1 ∷ 2 ∷ []) (3 ∷ 0 ∷ []) ≡ refused (endedEarly 2)
+record-without-its-end : recordTerm (0 ∷ 1 ∷ 2 ∷ []) (3 ∷ 0 ∷ []) ≡ refused (EndedEarly 2)
 unfolding computing
 record-without-its-end = refl
 
-a-variable-in-a-record : recordTerm (0 ∷ 1 ∷ 2 ∷ []) (3 ∷ 1 ∷ 4 ∷ 0 ∷ 5 ∷ []) ≡ refused (wrongKind 2)
+a-variable-in-a-record : recordTerm (0 ∷ 1 ∷ 2 ∷ []) (3 ∷ 1 ∷ 4 ∷ 0 ∷ 5 ∷ []) ≡ refused (WrongKind 2)
 unfolding computing
 a-variable-in-a-record = refl
 
-symbol-not-declared : recordTerm (0 ∷ 1 ∷ 2 ∷ []) (3 ∷ 3 ∷ 5 ∷ []) ≡ refused (notDeclared 1)
+symbol-not-declared : recordTerm (0 ∷ 1 ∷ 2 ∷ []) (3 ∷ 3 ∷ 5 ∷ []) ≡ refused (NotDeclared 1)
 unfolding computing
 symbol-not-declared = refl
 
@@ -93,19 +94,19 @@ symbol-not-declared = refl
 tower : (count : ℕ) → List ℕ
 tower count = flatten (replicate count (3 ∷ 1 ∷ [])) ++ (3 ∷ 0 ∷ 5 ∷ [])
 
-two-hundred-and-fifty-seven-nodes : recordTerm (0 ∷ 1 ∷ 2 ∷ []) (tower 256) ≡ refused (tooManyNodes 512)
+two-hundred-and-fifty-seven-nodes : recordTerm (0 ∷ 1 ∷ 2 ∷ []) (tower 256) ≡ refused (TooManyNodes 512)
 unfolding computing flatten tower
 two-hundred-and-fifty-seven-nodes = refl
 
-two-hundred-and-fifty-six-nodes : recordTerm (0 ∷ 1 ∷ 2 ∷ []) (tower 255 ++ (5 ∷ [])) ≡ refused (afterTheTerm 513)
+two-hundred-and-fifty-six-nodes : recordTerm (0 ∷ 1 ∷ 2 ∷ []) (tower 255 ++ (5 ∷ [])) ≡ refused (AfterTheTerm 513)
 unfolding computing flatten tower
 two-hundred-and-fifty-six-nodes = refl
 
-behind-the-term : recordTerm (0 ∷ 1 ∷ 2 ∷ []) (3 ∷ 0 ∷ 3 ∷ 0 ∷ 5 ∷ []) ≡ refused (afterTheTerm 2)
+behind-the-term : recordTerm (0 ∷ 1 ∷ 2 ∷ []) (3 ∷ 0 ∷ 3 ∷ 0 ∷ 5 ∷ []) ≡ refused (AfterTheTerm 2)
 unfolding computing
 behind-the-term = refl
 
-behind-the-end : recordTerm (0 ∷ 1 ∷ 2 ∷ []) (3 ∷ 0 ∷ 5 ∷ 5 ∷ []) ≡ refused (afterTheTerm 3)
+behind-the-end : recordTerm (0 ∷ 1 ∷ 2 ∷ []) (3 ∷ 0 ∷ 5 ∷ 5 ∷ []) ≡ refused (AfterTheTerm 3)
 unfolding computing
 behind-the-end = refl
 

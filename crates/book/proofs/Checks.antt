@@ -5,11 +5,11 @@ use mathlib.Core.Path.{_≡_, refl}
 use native.Mathlib.Omega.{arith}
 use lib.Dec.{leb}
 use Rattle.reply.specs.Reply.{Attempt, given, refused, unless, _>>_}
+use Rattle.reply.specs.declared.Refusal.{Refusal as Named}
+use Rattle.reply.specs.declared.Refusal.the-variants.{BookEnded, UnknownKind, NotAllowed, BadBody, TooMany}
 use Rattle.term.specs.Tables.{kindOf, bodyLength}
 use Rattle.book.specs.Reading.{known}
 use Rattle.book.specs.Placed.{allowed, bodyFits, roomLeft, checked, checkedAs}
-use Rattle.book.specs.declared.BookVerdict.{BookVerdict}
-use Rattle.book.specs.declared.BookVerdict.the-variants.{Ended, UnknownKind, NotAllowed, BadBody, TooMany}
 use Rattle.book.specs.declared.Checked.the-variants.{Taken, Refused}
 use Rattle.book.specs.declared.Stage.{Stage}
 
@@ -19,7 +19,7 @@ module _ (len p k b : ℕ) (stage : Stage) (symbols rules nodes : ℕ) where
   refused-2 e₂ = rw (checked, e₂)
 
   module _ (e₂ : known (kindOf k) ≡ true) where
-    pub refused-1 : leb (p + 1 + bodyLength k) len ≡ false → checked len p k b stage symbols rules nodes ≡ refused (Ended len)
+    pub refused-1 : leb (p + 1 + bodyLength k) len ≡ false → checked len p k b stage symbols rules nodes ≡ refused (BookEnded len)
     unfolding checked unless _>>_
     refused-1 e₁ = rw (checked, e₂, e₁)
 
@@ -43,12 +43,12 @@ module _ (len p k b : ℕ) (stage : Stage) (symbols rules nodes : ℕ) where
           taken e₅ = rw (checked, e₂, e₁, e₃, e₄, e₅)
 
 -- What the answer of the tests tells of them.
-pub checked-taken : (x : Attempt BookVerdict (Unit {0})) → checkedAs x ≡ Taken → x ≡ given tt
+pub checked-taken : (x : Attempt Named (Unit {0})) → checkedAs x ≡ Taken → x ≡ given tt
 unfolding checkedAs
 checked-taken (given t) e = refl
 checked-taken (refused v) e = let z : _≡_ {A = ℕ} 0 1 = cc in absurd (omega arith)
 
-pub checked-refused : (x : Attempt BookVerdict (Unit {0})) (v : BookVerdict) → checkedAs x ≡ Refused v → x ≡ refused v
+pub checked-refused : (x : Attempt Named (Unit {0})) (r : Named) → checkedAs x ≡ Refused r → x ≡ refused r
 unfolding checkedAs
-checked-refused (given t) v e = let z : _≡_ {A = ℕ} 0 1 = cc in absurd (omega arith)
-checked-refused (refused w) v e = cc
+checked-refused (given t) r e = let z : _≡_ {A = ℕ} 0 1 = cc in absurd (omega arith)
+checked-refused (refused s) r e = cc

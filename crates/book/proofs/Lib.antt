@@ -11,6 +11,7 @@ pub mod MoreSymbols
 pub mod Stands
 pub mod Placed
 pub mod Limits
+pub mod WasRead
 pub mod RecordSteps
 pub mod TreeBack
 pub mod ReadRecord

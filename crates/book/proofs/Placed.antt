@@ -12,7 +12,10 @@ use borrow.Author.Tests.{lt-ltb, le-leb, lt-leb, eqb-true, eqb-false}
 use lib.Dec.{T, leb, eqb, leb→le}
 use lib.ListN.{length, getD, drop, drop-of-length-le}
 use lib.Seq.{drop-cons, drop-drop, getD-drop}
-use Rattle.reply.specs.Reply.{Refusal, Attempt, Reply, given, refused, unless, _>>_, _>>=_}
+use Rattle.reply.specs.Reply.{Refusal, Attempt, Reply, given, refused, unless, _>>_, _>>=_, _at_}
+use Rattle.reply.specs.Refusals.{numbered}
+use Rattle.reply.specs.declared.Refusal.{Refusal as Named}
+use Rattle.reply.specs.declared.Refusal.the-variants.{BookEnded, UnknownKind, NotAllowed, BadBody, TooMany, AfterEnd}
 use Rattle.term.specs.Tables.{kindOf, bodyLength}
 use Rattle.book.specs.Book.{Book, Rule}
 use Rattle.book.specs.Reading as trees
@@ -21,18 +24,16 @@ use Rattle.book.specs.Placed as places
 use Rattle.book.specs.Placed.{Reader, placed}
 use Rattle.book.specs.Meaning.{bookAt, told, meaning}
 use Rattle.book.specs.declared.Book.{Book as PlacedBook}
-use Rattle.book.specs.declared.BookVerdict.{BookVerdict}
-use Rattle.book.specs.declared.BookVerdict.the-variants.{AfterEnd}
 use Rattle.book.proofs.Steps.{checkedAt, at-end}
 use Rattle.book.proofs.Matched.{Matched}
 use Rattle.book.proofs.Simulated.{Simulated, start-simulated, allowed-same, fits-same, room-same, next-simulated}
 
--- The verdict tells this refusal.
-abbrev pub Tells : BookVerdict → Refusal → Type 0
-Tells v r = (book : Book) → told v book ≡ refused r
+-- The named refusal has this number and place.
+abbrev pub Tells : Named → Refusal → Type 0
+Tells v r = numbered v ≡ r
 
 -- What the two machines reply: matched, or refused for the same.
-abbrev pub Alike : (bytes : List ℕ) → Reply Book → Attempt BookVerdict PlacedBook → Type 0
+abbrev pub Alike : (bytes : List ℕ) → Reply Book → Attempt Named PlacedBook → Type 0
 Alike bytes (given book) (given b) = Matched bytes (book .arities) (book .rules) b
 Alike bytes (given book) (refused v) = ⊥
 Alike bytes (refused r) (given b) = ⊥
@@ -41,7 +42,7 @@ Alike bytes (refused r) (refused v) = Tells v r
 module _ {A : Type 0} (bytes : List ℕ) where
   -- One test of both, and what comes behind it.
   test-alike :
-      (t t′ : Bool) (r : Refusal) (v : BookVerdict) (X : Reply A) (f : A → Reply Book) (X′ : Attempt BookVerdict (Unit {0})) (Y : Attempt BookVerdict PlacedBook) →
+      (t t′ : Bool) (r : Refusal) (v : Named) (X : Reply A) (f : A → Reply Book) (X′ : Attempt Named (Unit {0})) (Y : Attempt Named PlacedBook) →
       t ≡ t′ → Tells v r → (T t → Alike bytes (_>>=_ X f) (_>>_ X′ Y)) → Alike bytes (_>>=_ (_>>_ (unless t r) X) f) (_>>_ (_>>_ (unless t′ v) X′) Y)
   unfolding _>>=_ _>>_ unless
   test-alike true true r v X f X′ Y e tells behind = behind tt
@@ -51,7 +52,7 @@ module _ {A : Type 0} (bytes : List ℕ) where
 
   -- The last test.
   last-alike :
-      (t t′ : Bool) (r : Refusal) (v : BookVerdict) (a : A) (f : A → Reply Book) (Y : Attempt BookVerdict PlacedBook) → t ≡ t′ → Tells v r →
+      (t t′ : Bool) (r : Refusal) (v : Named) (a : A) (f : A → Reply Book) (Y : Attempt Named PlacedBook) → t ≡ t′ → Tells v r →
       (T t → Alike bytes (f a) Y) → Alike bytes (_>>=_ (_>>_ (unless t r) (given a)) f) (_>>_ (unless t′ v) Y)
   unfolding _>>=_ _>>_ unless
   last-alike true true r v a f Y e tells behind = behind tt
@@ -63,12 +64,12 @@ module _ {A : Type 0} (bytes : List ℕ) where
 ended-alike :
     (bytes : List ℕ) (s : State) (b : PlacedBook) (p : ℕ) → Matched bytes (s .arities) (s .rules) b →
     Alike bytes (trees.ended s p (drop p bytes)) (places.ended (length bytes) b p)
-unfolding trees.ended places.ended unless _>>_ told
+unfolding trees.ended places.ended unless _>>_ numbered
 ended-alike bytes s b p m =
     elim (decLt p (length bytes)) [
       | yes more ↦
           subst₂ (Alike bytes) (sym (ap (trees.ended s p) (drop-cons bytes p 0 more)))
-          (sym (ap (λ (t : Bool). _>>_ (unless t (AfterEnd p)) (given b)) (lt-leb (length bytes) p more))) (λ book. refl)
+          (sym (ap (λ (t : Bool). _>>_ (unless t (AfterEnd p)) (given b)) (lt-leb (length bytes) p more))) refl
       | no none ↦
           subst₂ (Alike bytes) (sym (ap (trees.ended s p) (drop-of-length-le bytes {i = p} (omega arith))))
           (sym (ap (λ (t : Bool). _>>_ (unless t (AfterEnd p)) (given b)) (le-leb (length bytes) p (omega arith)))) m
@@ -100,7 +101,7 @@ trees-turns fuel bytes s p here =
     (getD-drop (p + 1) bytes 0 0 ∙ ap (λ (i : ℕ). getD bytes i 0) (add-zero (p + 1)))
     (drop-drop (bodyLength (getD bytes p 0)) (p + 1) bytes)
 
-places-turn : (fuel : ℕ) (bytes : List ℕ) (q : Reader) (p : ℕ) → Attempt BookVerdict PlacedBook
+places-turn : (fuel : ℕ) (bytes : List ℕ) (q : Reader) (p : ℕ) → Attempt Named PlacedBook
 places-turn fuel bytes q p =
     let k = getD bytes p 0 in
     _>>_ (checkedAt bytes q p)
@@ -117,10 +118,10 @@ places-turns fuel bytes q p here = rw (places.placedFrom, lt-ltb p (length bytes
 early-alike :
     (fuel : ℕ) (bytes : List ℕ) (s : State) (q : Reader) (p : ℕ) → length bytes ≤ p →
     Alike bytes (trees.readFrom (suc fuel) (length bytes) s p (drop p bytes)) (places.placedFrom (suc fuel) bytes q p)
-unfolding trees.readFrom told
+unfolding trees.readFrom numbered
 early-alike fuel bytes s q p none =
     subst₂ (Alike bytes) (sym (ap (trees.readFrom (suc fuel) (length bytes) s p) (drop-of-length-le bytes none))) (sym (at-end bytes q p (suc fuel) none))
-    (λ book. refl)
+    refl
 
 -- The end record changes nothing.
 end-next : (s : State) (b k : ℕ) → k ≡ 5 → trees.next (kindOf k) s b ≡ s
@@ -133,13 +134,13 @@ turn-alike :
     ((s′ : State) (q′ : Reader) (p′ : ℕ) → Simulated bytes s′ q′ p′ →
     Alike bytes (trees.readFrom fuel (length bytes) s′ p′ (drop p′ bytes)) (places.placedFrom fuel bytes q′ p′)) →
     Alike bytes (trees-turn fuel bytes s p) (places-turn fuel bytes q p)
-unfolding trees-turn places-turn trees.recordAt places.checked told
+unfolding trees-turn places-turn trees.recordAt places.checked numbered
 turn-alike fuel bytes s q p sim behind =
-    test-alike bytes (trees.known (kindOf k)) _ _ _ _ _ _ _ refl (λ book. refl)
-    (λ isKnown. test-alike bytes (leb (p + 1 + bodyLength k) (length bytes)) _ _ _ _ _ _ _ refl (λ book. refl)
-    (λ whole. test-alike bytes (trees.allowed (kindOf k) (s .stage)) _ _ _ _ _ _ _ (allowed-same sim (kindOf k)) (λ book. refl)
-    (λ here. test-alike bytes (trees.bodyFits (kindOf k) s b) _ _ _ _ _ _ _ (fits-same sim (kindOf k) b) (λ book. refl)
-    (λ fits. last-alike bytes (trees.roomLeft (kindOf k) s) _ _ _ _ _ _ (room-same sim (kindOf k) here) (λ book. refl)
+    test-alike bytes (trees.known (kindOf k)) _ (2 at p) (UnknownKind p) _ _ _ _ refl refl
+    (λ isKnown. test-alike bytes (leb (p + 1 + bodyLength k) (length bytes)) _ (1 at length bytes) (BookEnded (length bytes)) _ _ _ _ refl refl
+    (λ whole. test-alike bytes (trees.allowed (kindOf k) (s .stage)) _ (3 at p) (NotAllowed p) _ _ _ _ (allowed-same sim (kindOf k)) refl
+    (λ here. test-alike bytes (trees.bodyFits (kindOf k) s b) _ (4 at (p + 1)) (BadBody (p + 1)) _ _ _ _ (fits-same sim (kindOf k) b) refl
+    (λ fits. last-alike bytes (trees.roomLeft (kindOf k) s) _ (5 at p) (TooMany p) _ _ _ (room-same sim (kindOf k) here) refl
     (λ room. go (eqb k 5) refl isKnown (leb→le (p + 1 + bodyLength k) (length bytes) whole) here fits room)))))
   where
     k : ℕ
@@ -171,8 +172,8 @@ turn-alike fuel bytes s q p sim behind =
 from-alike :
     (fuel : ℕ) (bytes : List ℕ) (s : State) (q : Reader) (p : ℕ) → Simulated bytes s q p →
     Alike bytes (trees.readFrom fuel (length bytes) s p (drop p bytes)) (places.placedFrom fuel bytes q p)
-unfolding trees.readFrom places.placedFrom told
-from-alike zero bytes s q p sim = λ book. refl
+unfolding trees.readFrom places.placedFrom numbered
+from-alike zero bytes s q p sim = refl
 from-alike (suc fuel) bytes s q p sim =
     elim (decLt p (length bytes)) [
       | yes here ↦
@@ -187,13 +188,13 @@ unfolding readBook
 alike bytes = from-alike (length bytes) bytes trees.start places.start 0 (start-simulated bytes)
 
 -- What is alike means the same.
-meant : (bytes : List ℕ) (x : Reply Book) (y : Attempt BookVerdict PlacedBook) → Alike bytes x y → meaning bytes (places.answer y) ≡ x
+meant : (bytes : List ℕ) (x : Reply Book) (y : Attempt Named PlacedBook) → Alike bytes x y → meaning bytes (places.answer y) ≡ x
 unfolding meaning told places.answer bookAt
 meant bytes (given book) (given b) m =
     ap₂ {C = Reply Book} (λ (arities : List ℕ) (rules : List Rule). given (record { arities = arities; rules = rules })) (m .declared) (m .rulesThere)
 meant bytes (given book) (refused v) no-way = absurd no-way
 meant bytes (refused r) (given b) no-way = absurd no-way
-meant bytes (refused r) (refused v) tells = tells (bookAt bytes places.nothingRead)
+meant bytes (refused r) (refused v) tells = ap refused tells
 
 -- The places that are read mean the book that is read.
 pub placed-means : (bytes : List ℕ) → meaning bytes (placed bytes) ≡ readBook bytes

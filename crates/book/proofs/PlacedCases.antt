@@ -3,13 +3,15 @@
 use mathlib.Core.Path.{_≡_, refl}
 use mathlib.Core.List.{[], _∷_, map}
 use lib.ListN.{replicate}
+use Rattle.reply.specs.declared.Refusal.the-variants.{BookEnded, UnknownKind, NotAllowed, BadBody, AfterEnd}
 use Rattle.book.specs.Placed.{nothingRead, placed}
 use Rattle.book.specs.Record.{recordTerm}
 use Rattle.book.specs.RecordMeaning.{recordVerdict}
 use Rattle.book.specs.Examples.{fx-to-gx, onlyEnd, oneAndNone}
 use Rattle.book.specs.Computing.{computing}
-use Rattle.book.specs.declared.BookVerdict.the-variants.{Readable, Ended, UnknownKind, NotAllowed, BadBody, AfterEnd}
-use Rattle.book.specs.declared.RecordVerdict.the-variants.{Whole, EndedEarly, WrongKind, NotDeclared, AfterTheTerm}
+use Rattle.book.specs.declared.BookVerdict.the-variants.{Readable, Refused}
+use Rattle.book.specs.declared.RecordVerdict.the-variants.{Whole, Faulty}
+use Rattle.book.specs.declared.RecordFault.the-variants.{EndedEarly, WrongKind, NotDeclared, AfterTheTerm}
 
 sides-placed :
     placed fx-to-gx
@@ -35,7 +37,7 @@ only-end = refl
 
 refusals :
     map (λ bytes. placed bytes .verdict) ([] ∷ (6 ∷ []) ∷ (3 ∷ 0 ∷ []) ∷ (1 ∷ 7 ∷ []) ∷ (2 ∷ 5 ∷ []) ∷ (5 ∷ 0 ∷ []) ∷ (3 ∷ []) ∷ [])
-    ≡ Ended 0 ∷ UnknownKind 0 ∷ NotAllowed 0 ∷ BadBody 1 ∷ NotAllowed 1 ∷ AfterEnd 1 ∷ Ended 1 ∷ []
+    ≡ map Refused (BookEnded 0 ∷ UnknownKind 0 ∷ NotAllowed 0 ∷ BadBody 1 ∷ NotAllowed 1 ∷ AfterEnd 1 ∷ BookEnded 1 ∷ [])
 unfolding computing
 refusals = refl
 
@@ -43,6 +45,6 @@ refusals = refl
 records :
     map (λ bytes. recordVerdict (recordTerm (0 ∷ 1 ∷ 2 ∷ []) bytes))
     (oneAndNone ∷ [] ∷ (3 ∷ 0 ∷ []) ∷ (4 ∷ 0 ∷ 5 ∷ []) ∷ (3 ∷ 3 ∷ 5 ∷ []) ∷ (3 ∷ 0 ∷ 5 ∷ 5 ∷ []) ∷ (3 ∷ 0 ∷ 3 ∷ []) ∷ [])
-    ≡ Whole 4 ∷ EndedEarly 0 ∷ EndedEarly 2 ∷ WrongKind 0 ∷ NotDeclared 1 ∷ AfterTheTerm 3 ∷ AfterTheTerm 2 ∷ []
+    ≡ Whole 4 ∷ map Faulty (EndedEarly 0 ∷ EndedEarly 2 ∷ WrongKind 0 ∷ NotDeclared 1 ∷ AfterTheTerm 3 ∷ AfterTheTerm 2 ∷ [])
 unfolding computing
 records = refl

@@ -14,7 +14,8 @@ use Rattle.term.specs.Prefix.{Node, symbolic, arityOf, tree, recordBytes}
 use Rattle.reply.proofs.Given.{refused-not-given, bind-given, then-given, unless-given, unless-given-alone, either-given, told-given}
 use Rattle.term.proofs.Prefix.{declared, Leaves, noNode, leaves-next, leaves-variable, nodeBytes, nodesBytes, TreeOf, tree-fills, no-variable→free}
 use Rattle.book.specs.Book.{Book}
-use Rattle.book.specs.Record.{endedEarly, afterTheTerm, recordNode, recordEnd, nodesFrom, recordTerm, readRecord}
+use Rattle.book.specs.Record.{recordNode, recordEnd, nodesFrom, recordTerm, readRecord}
+use Rattle.book.specs.declared.RecordFault.the-variants.{EndedEarly, AfterTheTerm}
 
 -- A node that was taken: its two bytes, a declared symbol, and room for it.
 record Taken (n nodes f : ℕ) (bytes : List ℕ) : Type 0 where
@@ -35,7 +36,7 @@ body-there k p len (b ∷ bytes) is-symbol stands whole = ap (λ (j : ℕ). j �
 node-taken :
     (n len nodes p : ℕ) (bytes : List ℕ) (f : ℕ) → p + length bytes ≡ len → recordNode n len nodes p bytes ≡ given f → Taken n nodes f bytes
 unfolding recordNode
-node-taken n len nodes p [] f stands e = absurd (refused-not-given (endedEarly len) f e)
+node-taken n len nodes p [] f stands e = absurd (refused-not-given (EndedEarly len) f e)
 node-taken n len nodes p (k ∷ bytes) f stands e₀ =
     let (is-symbol, e₁) = unless-given _ _ _ _ e₀ in
     let (whole, e₂) = unless-given _ _ _ _ e₁ in
@@ -50,9 +51,9 @@ node-taken n len nodes p (k ∷ bytes) f stands e₀ =
 
 end-taken : (len p : ℕ) (bytes : List ℕ) → recordEnd len p bytes ≡ given tt → bytes ≡ 5 ∷ []
 unfolding recordEnd
-end-taken len p [] e = absurd (refused-not-given (endedEarly len) tt e)
+end-taken len p [] e = absurd (refused-not-given (EndedEarly len) tt e)
 end-taken len p (k ∷ []) e = ap (λ (j : ℕ). j ∷ []) (eqb→eq k 5 (unless-given-alone _ _ e))
-end-taken len p (k ∷ b ∷ bytes) e = absurd (refused-not-given (afterTheTerm (p + 1)) tt ((unless-given _ _ _ _ e) .1))
+end-taken len p (k ∷ b ∷ bytes) e = absurd (refused-not-given (AfterTheTerm (p + 1)) tt ((unless-given _ _ _ _ e) .1))
 
 nodesBytes-append : (nodes more : List Node) → nodesBytes (nodes ++ more) ≡ nodesBytes nodes ++ nodesBytes more
 unfolding nodesBytes
@@ -98,7 +99,7 @@ nodes-taken :
     Leaves arities (λ x. ⊥) 1 nodes missing → length nodes ≤ 256 → p + length bytes ≡ len →
     nodesFrom fuel arities len missing nodes p bytes ≡ given all → AllTaken arities nodes bytes all
 unfolding nodesFrom arityOf
-nodes-taken zero arities len missing nodes p bytes all filled few stands e = absurd (refused-not-given (endedEarly len) all e)
+nodes-taken zero arities len missing nodes p bytes all filled few stands e = absurd (refused-not-given (EndedEarly len) all e)
 nodes-taken (suc fuel) arities len missing nodes p bytes all filled few stands e =
     either-given (eqb missing 0) _ _ all
     (λ none-missing whole.

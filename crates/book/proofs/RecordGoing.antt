@@ -15,10 +15,11 @@ use Rattle.term.specs.Term.{Term, size}
 use Rattle.term.specs.Prefix.{Node, symbolic, tree, prefix, recordBytes}
 use Rattle.reply.proofs.Given.{refused-not-given, unless-given}
 use Rattle.term.proofs.PrefixAt.{prefix-length}
-use Rattle.book.specs.Record.{Fault, endedEarly, afterTheTerm, recordNode, recordEnd, nodesFrom, recordTerm}
-use Rattle.book.specs.RecordMeaning.{faultVerdict, recordVerdict, nodeFound, endFound}
+use Rattle.book.specs.Record.{recordNode, recordEnd, nodesFrom, recordTerm}
+use Rattle.book.specs.RecordMeaning.{recordVerdict, nodeFound, endFound}
 use Rattle.book.specs.declared.NodeFound.the-variants.{Symbol, Faulty}
-use Rattle.book.specs.declared.RecordVerdict.{RecordVerdict}
+use Rattle.book.specs.declared.RecordFault.{RecordFault}
+use Rattle.book.specs.declared.RecordFault.the-variants.{EndedEarly, AfterTheTerm}
 use Rattle.book.specs.declared.RecordVerdict.the-variants.{Whole}
 use Rattle.book.proofs.RecordSteps.{nodeTests, no-node, tests}
 use Rattle.book.proofs.RecordStands.{TermRead, term-read}
@@ -74,26 +75,26 @@ pub node-passed : (bytes : List ℕ) (n nodes p f : ℕ) → recordNode n (lengt
 node-passed bytes n nodes p f e =
     elim (decLt p (length bytes)) [
       | yes here ↦ tests-passed bytes n nodes p (getD bytes p 0) (getD bytes (p + 1) 0) f (sym (tests bytes n nodes p here) ∙ e)
-      | no none ↦ absurd (refused-not-given (endedEarly (length bytes)) f (sym (no-node bytes n nodes p (omega arith)) ∙ e))
+      | no none ↦ absurd (refused-not-given (EndedEarly (length bytes)) f (sym (no-node bytes n nodes p (omega arith)) ∙ e))
     ]
 
 -- What the answer for a node tells of it.
-pub found-symbol : (x : Attempt Fault ℕ) (f : ℕ) → nodeFound x ≡ Symbol f → x ≡ given f
+pub found-symbol : (x : Attempt RecordFault ℕ) (f : ℕ) → nodeFound x ≡ Symbol f → x ≡ given f
 unfolding nodeFound
 found-symbol (given g) f e = cc
 found-symbol (refused g) f e = let z : _≡_ {A = ℕ} 0 1 = cc in absurd (omega arith)
 
-pub found-faulty : (x : Attempt Fault ℕ) (v : RecordVerdict) → nodeFound x ≡ Faulty v → (f : Fault) × (x ≡ refused f) × (v ≡ faultVerdict f)
+pub found-faulty : (x : Attempt RecordFault ℕ) (f : RecordFault) → nodeFound x ≡ Faulty f → x ≡ refused f
 unfolding nodeFound
-found-faulty (given g) v e = let z : _≡_ {A = ℕ} 0 1 = cc in absurd (omega arith)
-found-faulty (refused g) v e = (g, refl, cc)
+found-faulty (given g) f e = let z : _≡_ {A = ℕ} 0 1 = cc in absurd (omega arith)
+found-faulty (refused g) f e = cc
 
 -- An end that was taken is the last byte.
 end-last : (len p : ℕ) (bytes : List ℕ) → recordEnd len p bytes ≡ given tt → length bytes ≡ 1
 unfolding recordEnd
-end-last len p [] e = absurd (refused-not-given (endedEarly len) tt e)
+end-last len p [] e = absurd (refused-not-given (EndedEarly len) tt e)
 end-last len p (k ∷ []) e = refl
-end-last len p (k ∷ b ∷ bytes) e = absurd (refused-not-given (afterTheTerm (p + 1)) tt ((unless-given _ _ _ _ e) .1))
+end-last len p (k ∷ b ∷ bytes) e = absurd (refused-not-given (AfterTheTerm (p + 1)) tt ((unless-given _ _ _ _ e) .1))
 
 end-place : (bytes : List ℕ) (p : ℕ) → p ≤ length bytes → recordEnd (length bytes) p (drop p bytes) ≡ given tt → length bytes ≡ p + 1
 end-place bytes p within e = omega (arith, end-last (length bytes) p (drop p bytes) e, length-drop p bytes)
@@ -114,7 +115,7 @@ module _ (bytes arities : List ℕ) (missing nodes p : ℕ) (g : NodesGoing byte
       go (suc fuel) enough same = f fuel enough same
 
   -- What the reader asks of the node at p.
-  abbrev node-here : Attempt Fault ℕ
+  abbrev node-here : Attempt RecordFault ℕ
   node-here = recordNode (length arities) (length bytes) nodes p (drop p bytes)
 
   node-there : recordNode (length arities) (length bytes) (length (g .came)) p (drop p bytes) ≡ node-here
@@ -122,24 +123,24 @@ module _ (bytes arities : List ℕ) (missing nodes p : ℕ) (g : NodesGoing byte
 
   module _ (some : 0 < missing) where
     node-turn :
-        (fuel : ℕ) (x : Attempt Fault ℕ) → node-here ≡ x →
+        (fuel : ℕ) (x : Attempt RecordFault ℕ) → node-here ≡ x →
         nodesFrom (suc fuel) arities (length bytes) missing (g .came) p (drop p bytes)
         ≡ _>>=_ x
         (λ f. nodesFrom fuel arities (length bytes) (pred missing + getD arities f 0) (g .came ++ (symbolic f ∷ [])) (p + 2) (drop 2 (drop p bytes)))
     unfolding nodesFrom
     node-turn fuel x e =
         rw (nodesFrom, ne-eqb missing 0 (λ z. omega arith)) (ap
-        (λ (y : Attempt Fault ℕ).
+        (λ (y : Attempt RecordFault ℕ).
         _>>=_ y
         (λ f. nodesFrom fuel arities (length bytes) (pred missing + getD arities f 0) (g .came ++ (symbolic f ∷ [])) (p + 2) (drop 2 (drop p bytes))))
         (node-there ∙ e))
 
     -- The node at p is refused.
-    pub node-faulty : (f : Fault) → node-here ≡ refused f → recordTerm arities bytes ≡ refused f
+    pub node-faulty : (f : RecordFault) → node-here ≡ refused f → recordTerm arities bytes ≡ refused f
     unfolding recordTerm _>>=_
     node-faulty f e =
         with-fuel (λ fuel enough same.
-        ap (λ (x : Attempt Fault (List Node)). _>>=_ x (λ ns. given (tree arities ns))) (sym same ∙ node-turn fuel (refused f) e))
+        ap (λ (x : Attempt RecordFault (List Node)). _>>=_ x (λ ns. given (tree arities ns))) (sym same ∙ node-turn fuel (refused f) e))
 
     -- The node at p is taken.
     pub node-on :
@@ -172,7 +173,7 @@ module _ (bytes arities : List ℕ) (missing nodes p : ℕ) (g : NodesGoing byte
   whole-term : missing ≡ 0 → recordTerm arities bytes ≡ _>>=_ (_>>_ (recordEnd (length bytes) p (drop p bytes)) (given (g .came))) (λ ns. given (tree arities ns))
   unfolding recordTerm
   whole-term none =
-      with-fuel (λ fuel enough same. ap (λ (x : Attempt Fault (List Node)). _>>=_ x (λ ns. given (tree arities ns))) (sym same ∙ end-turn fuel none))
+      with-fuel (λ fuel enough same. ap (λ (x : Attempt RecordFault (List Node)). _>>=_ x (λ ns. given (tree arities ns))) (sym same ∙ end-turn fuel none))
 
   -- A term of which the end is right behind has as many nodes as came.
   as-many : (t : Term) → recordTerm arities bytes ≡ given t → length bytes ≡ p + 1 → nodes ≡ size t
@@ -188,7 +189,7 @@ module _ (bytes arities : List ℕ) (missing nodes p : ℕ) (g : NodesGoing byte
   term-whole none = go (recordEnd (length bytes) p (drop p bytes)) refl (whole-term none)
     where
       go :
-          (x : Attempt Fault (Unit {0})) → recordEnd (length bytes) p (drop p bytes) ≡ x →
+          (x : Attempt RecordFault (Unit {0})) → recordEnd (length bytes) p (drop p bytes) ≡ x →
           recordTerm arities bytes ≡ _>>=_ (_>>_ x (given (g .came))) (λ ns. given (tree arities ns)) → endFound nodes x ≡ recordVerdict (recordTerm arities bytes)
       go (given t) e is = ap Whole (as-many (tree arities (g .came)) is (end-place bytes p (g .within) e)) ∙ ap recordVerdict (sym is)
       go (refused f) e is = ap recordVerdict (sym is)

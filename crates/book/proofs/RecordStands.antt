@@ -14,8 +14,9 @@ use Rattle.term.specs.Prefix.{prefix, recordBytes}
 use Rattle.term.specs.At.{At}
 use Rattle.term.proofs.PrefixAt.{prefix-at}
 use Rattle.book.specs.Book.{Book}
-use Rattle.book.specs.Record.{Fault, endedEarly, wrongKind, notDeclared, tooManyNodes, afterTheTerm, refusalOf, recordTerm, readRecord}
-use Rattle.book.specs.RecordMeaning.{recordMeaning, faultVerdict, recordVerdict}
+use Rattle.book.specs.Record.{refusalOf, recordTerm, readRecord}
+use Rattle.book.specs.RecordMeaning.{recordMeaning, recordVerdict}
+use Rattle.book.specs.declared.RecordFault.{RecordFault}
 use Rattle.book.specs.declared.RecordVerdict.the-variants.{Whole}
 use Rattle.book.proofs.ReadRecord.{record-read}
 use Rattle.book.proofs.MoreSymbols.{at-table}
@@ -44,22 +45,14 @@ term-read arities bytes t e =
       stands = subst (λ (e : ℕ). At bytes arities 0 t e) (zero-add (2 * size t)) (prefix-at t 0 (r .0) here);
     }
 
-fault-meant : (bytes arities : List ℕ) (f : Fault) → recordMeaning bytes arities (faultVerdict f) ≡ refused f
-unfolding recordMeaning faultVerdict
-fault-meant bytes arities (endedEarly p) = refl
-fault-meant bytes arities (wrongKind p) = refl
-fault-meant bytes arities (notDeclared p) = refl
-fault-meant bytes arities (tooManyNodes p) = refl
-fault-meant bytes arities (afterTheTerm p) = refl
-
 -- The answer means what was read.
 pub record-means : (arities bytes : List ℕ) → recordMeaning bytes arities (recordVerdict (recordTerm arities bytes)) ≡ recordTerm arities bytes
 unfolding recordVerdict recordMeaning
 record-means arities bytes = go (recordTerm arities bytes) refl
   where
-    go : (x : Attempt Fault Term) → recordTerm arities bytes ≡ x → recordMeaning bytes arities (recordVerdict x) ≡ x
+    go : (x : Attempt RecordFault Term) → recordTerm arities bytes ≡ x → recordMeaning bytes arities (recordVerdict x) ≡ x
     go (given t) e = ap given (tree-back (term-read arities bytes t e .stands))
-    go (refused f) e = fault-meant bytes arities f
+    go (refused f) e = refl
 
 -- A whole record, its symbols the first of a table of arities: the term that it is, and where it stands.
 pub record WholeTerm (bytes : List ℕ) (symbols : ℕ) (table : List ℕ) (nodes : ℕ) : Type 0 where
@@ -69,21 +62,13 @@ pub record WholeTerm (bytes : List ℕ) (symbols : ℕ) (table : List ℕ) (node
   pub nodeCount : size term ≡ nodes
   pub stands : At bytes table 0 term (2 * nodes)
 
-not-whole : (f : Fault) (nodes : ℕ) → Whole nodes ≡ faultVerdict f → ⊥
-unfolding faultVerdict
-not-whole (endedEarly p) nodes e = let z : _≡_ {A = ℕ} 0 1 = cc in omega arith
-not-whole (wrongKind p) nodes e = let z : _≡_ {A = ℕ} 0 1 = cc in omega arith
-not-whole (notDeclared p) nodes e = let z : _≡_ {A = ℕ} 0 1 = cc in omega arith
-not-whole (tooManyNodes p) nodes e = let z : _≡_ {A = ℕ} 0 1 = cc in omega arith
-not-whole (afterTheTerm p) nodes e = let z : _≡_ {A = ℕ} 0 1 = cc in omega arith
-
 pub whole-stands :
     (bytes : List ℕ) (symbols : ℕ) (table : List ℕ) (nodes : ℕ) → Whole nodes ≡ recordVerdict (recordTerm (take symbols table) bytes) →
     WholeTerm bytes symbols table nodes
 unfolding recordVerdict
 whole-stands bytes symbols table nodes settled = go (recordTerm (take symbols table) bytes) refl settled
   where
-    go : (x : Attempt Fault Term) → recordTerm (take symbols table) bytes ≡ x → Whole nodes ≡ recordVerdict x → WholeTerm bytes symbols table nodes
+    go : (x : Attempt RecordFault Term) → recordTerm (take symbols table) bytes ≡ x → Whole nodes ≡ recordVerdict x → WholeTerm bytes symbols table nodes
     go (given t) e w =
         let read : TermRead (take symbols table) bytes t = term-read (take symbols table) bytes t e in
         let many : size t ≡ nodes = cc in
@@ -94,4 +79,4 @@ whole-stands bytes symbols table nodes settled = go (recordTerm (take symbols ta
           nodeCount = many;
           stands = at-table symbols table (subst (λ (n : ℕ). At bytes (take symbols table) 0 t (2 * n)) many (read .stands));
         }
-    go (refused f) e w = absurd (not-whole f nodes w)
+    go (refused f) e w = let z : _≡_ {A = ℕ} 0 1 = cc in absurd (omega arith)

@@ -3,14 +3,13 @@
 use Prim.Native.Nat.{ℕ, zero, suc, _+_, _*_, _<_}
 use mathlib.Core.List.{List, [], _∷_}
 use mathlib.Core.Path.{_≡_, refl, sym, ap, subst, _∙_}
-use mathlib.Core.Logic.{⊎-elim}
 use native.Mathlib.Decide.{decLt}
 use native.Mathlib.Omega.{arith}
-use denote.Enum.Declared.{tagOf}
-use types.Run.{OneOf}
 use lib.ListN.{length, getD, take, length-append, List·getD-append}
 use lib.Seq.{getD-at}
-use Rattle.reply.specs.Reply.{Refusal, Attempt, Reply, given, refused, _at_}
+use Rattle.reply.specs.Reply.{Attempt, Reply, given, refused}
+use Rattle.reply.specs.Refusals.{numbered}
+use Rattle.reply.specs.declared.Refusal.{Refusal as Named}
 use Rattle.term.specs.Term.{Term, size}
 use Rattle.term.specs.At.{At}
 use Rattle.reply.proofs.Given.{refused-not-given}
@@ -21,9 +20,8 @@ use Rattle.book.specs.Placed.{placed}
 use Rattle.book.specs.Meaning.{treeAt, aritiesOf, ruleAt, rulesBefore, bookAt, told, meaning}
 use Rattle.book.specs.declared.Book.{Book as PlacedBook}
 use Rattle.book.specs.declared.BookVerdict.{BookVerdict}
-use Rattle.book.specs.declared.BookVerdict.the-variants.{Readable, Ended, UnknownKind, NotAllowed, BadBody, TooMany, AfterEnd}
+use Rattle.book.specs.declared.BookVerdict.the-variants.{Readable, Refused}
 use Rattle.book.specs.declared.ReadBook.{ReadBook}
-use Rattle.book.proofs.BookVerdict.{the-type as verdict-type}
 use Rattle.book.proofs.MoreSymbols.{at-table}
 use Rattle.book.proofs.Sides.{SideAt}
 use Rattle.book.proofs.Matched.{Matched}
@@ -95,33 +93,14 @@ pub readable-given : (bytes : List ℕ) (r : ReadBook) → r .verdict ≡ Readab
 unfolding meaning told
 readable-given bytes r e = ap (λ (v : BookVerdict). told v (bookAt bytes (r .book))) e
 
--- Any other verdict tells a refusal, whatever is beside it.
-verdict-told : (v : BookVerdict) → (v ≡ Readable → ⊥) → (why : Refusal) × ((book : Book) → told v book ≡ refused why)
-unfolding told
-verdict-told Readable other = absurd (other refl)
-verdict-told (Ended p) other = (1 at p, λ book. refl)
-verdict-told (UnknownKind p) other = (2 at p, λ book. refl)
-verdict-told (NotAllowed p) other = (3 at p, λ book. refl)
-verdict-told (BadBody p) other = (4 at p, λ book. refl)
-verdict-told (TooMany p) other = (5 at p, λ book. refl)
-verdict-told (AfterEnd p) other = (6 at p, λ book. refl)
-
-pub unreadable-refused : (bytes : List ℕ) (r : ReadBook) → (r .verdict ≡ Readable → ⊥) → (why : Refusal) × (meaning bytes r ≡ refused why)
-unfolding meaning
-unreadable-refused bytes r other = let (why, tells) = verdict-told (r .verdict) other in (why, tells (bookAt bytes (r .book)))
-
--- The verdict of a caller's arm for all but the first variant.
-pub other-arm : (v : BookVerdict) → OneOf (1 ∷ 2 ∷ 3 ∷ 4 ∷ 5 ∷ 6 ∷ []) (tagOf verdict-type v) → v ≡ Readable → ⊥
-other-arm v arm e = none (subst (λ (one : BookVerdict). OneOf (1 ∷ 2 ∷ 3 ∷ 4 ∷ 5 ∷ 6 ∷ []) (tagOf verdict-type one)) e arm)
-  where
-    none : OneOf (1 ∷ 2 ∷ 3 ∷ 4 ∷ 5 ∷ 6 ∷ []) 0 → ⊥
-    none =
-        ⊎-elim (λ a. omega arith)
-        (⊎-elim (λ a. omega arith) (⊎-elim (λ a. omega arith) (⊎-elim (λ a. omega arith) (⊎-elim (λ a. omega arith) (λ a. omega arith)))))
+-- A refused verdict tells its refusal.
+pub refused-told : (bytes : List ℕ) (r : ReadBook) (why : Named) → r .verdict ≡ Refused why → meaning bytes r ≡ refused (numbered why)
+unfolding meaning told
+refused-told bytes r why e = ap (λ (v : BookVerdict). told v (bookAt bytes (r .book))) e
 
 -- The book that was given stands at the places.
 given-stands :
-    (bytes : List ℕ) (book : Book) (x : Reply Book) (y : Attempt BookVerdict PlacedBook) → Alike bytes x y → x ≡ given book →
+    (bytes : List ℕ) (book : Book) (x : Reply Book) (y : Attempt Named PlacedBook) → Alike bytes x y → x ≡ given book →
     Stands bytes (places.answer y .book) book
 unfolding places.answer
 given-stands bytes book (given book′) (given b) m e =

@@ -6,13 +6,13 @@ use native.Mathlib.Omega.{arith}
 use borrow.Author.Tests.{lt-ltb, le-ltb, eq-eqb, ne-eqb}
 use lib.ListN.{length, getD}
 use Rattle.reply.specs.Reply.{Attempt, given, refused, _>>_}
+use Rattle.reply.specs.declared.Refusal.{Refusal as Named}
+use Rattle.reply.specs.declared.Refusal.the-variants.{BookEnded}
 use Rattle.term.specs.Tables.{kindOf, bodyLength}
 use Rattle.book.specs.Placed.{Reader, checked, next, ended, placedFrom, start, answer, placed}
-use Rattle.book.specs.declared.BookVerdict.{BookVerdict}
-use Rattle.book.specs.declared.BookVerdict.the-variants.{Ended}
 
 -- The tests of the record that stands at p.
-abbrev pub checkedAt : (bytes : List ℕ) → Reader → (p : ℕ) → Attempt BookVerdict (Unit {0})
+abbrev pub checkedAt : (bytes : List ℕ) → Reader → (p : ℕ) → Attempt Named (Unit {0})
 checkedAt bytes q p = checked (length bytes) p (getD bytes p 0) (getD bytes (p + 1) 0) (q .stage) (q .book .symbols) (q .book .rules) (q .nodes)
 
 -- The reading of the book goes on from q at p: what is still to be read from there is what the book gives.
@@ -26,13 +26,13 @@ at-start bytes = record { fuel = length bytes; enough = omega arith; same = refl
 
 module _ (bytes : List ℕ) (q : Reader) (p : ℕ) where
   -- Nothing is read past the end.
-  pub at-end : (fuel : ℕ) → length bytes ≤ p → placedFrom fuel bytes q p ≡ refused (Ended (length bytes))
+  pub at-end : (fuel : ℕ) → length bytes ≤ p → placedFrom fuel bytes q p ≡ refused (BookEnded (length bytes))
   unfolding placedFrom
   at-end zero h = refl
   at-end (suc fuel) h = rw (placedFrom, le-ltb p (length bytes) h)
 
   -- No byte is left.
-  pub ended-early : Continues bytes q p → length bytes ≤ p → placed bytes ≡ answer (refused (Ended (length bytes)))
+  pub ended-early : Continues bytes q p → length bytes ≤ p → placed bytes ≡ answer (refused (BookEnded (length bytes)))
   unfolding placed
   ended-early c h = ap answer (sym (c .same) ∙ at-end (c .fuel) h)
 
@@ -47,14 +47,14 @@ module _ (bytes : List ℕ) (q : Reader) (p : ℕ) where
         go zero enough same = absurd (omega arith)
         go (suc fuel) enough same = f fuel enough same
 
-    refused-step : (fuel : ℕ) (v : BookVerdict) → checkedAt bytes q p ≡ refused v → placedFrom (suc fuel) bytes q p ≡ refused v
+    refused-step : (fuel : ℕ) (r : Named) → checkedAt bytes q p ≡ refused r → placedFrom (suc fuel) bytes q p ≡ refused r
     unfolding placedFrom _>>_
-    refused-step fuel v e = rw (placedFrom, lt-ltb p (length bytes) here, e)
+    refused-step fuel r e = rw (placedFrom, lt-ltb p (length bytes) here, e)
 
     -- The record at p is refused.
-    pub refused-here : Continues bytes q p → (v : BookVerdict) → checkedAt bytes q p ≡ refused v → placed bytes ≡ answer (refused v)
+    pub refused-here : Continues bytes q p → (r : Named) → checkedAt bytes q p ≡ refused r → placed bytes ≡ answer (refused r)
     unfolding placed
-    refused-here c v e = with-fuel (λ fuel enough same. ap answer (sym same ∙ refused-step fuel v e)) c
+    refused-here c r e = with-fuel (λ fuel enough same. ap answer (sym same ∙ refused-step fuel r e)) c
 
     ended-step :
         (fuel : ℕ) → checkedAt bytes q p ≡ given tt → getD bytes p 0 ≡ 5 → placedFrom (suc fuel) bytes q p ≡ ended (length bytes) (q .book) (p + 1)

@@ -5,5 +5,7 @@ pub mod Meaning
 pub mod Record
 pub mod RecordMeaning
 pub mod Limits
+pub mod Standing
+pub mod WasRead
 pub mod Examples
 pub mod Computing

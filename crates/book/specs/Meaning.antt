@@ -4,15 +4,15 @@ use mathlib.Core.Bool.{true, false}
 use mathlib.Core.List.{List, [], _∷_, _++_}
 use lib.Dec.{eqb}
 use lib.ListN.{getD, take}
-use Rattle.reply.specs.Reply.{Reply, given, refused, _at_}
+use Rattle.reply.specs.Reply.{Reply, given, refused}
+use Rattle.reply.specs.Refusals.{numbered}
 use Rattle.term.specs.Term.{Term}
 use Rattle.term.specs.Prefix.{Node, symbolic, variable, tree}
 use Rattle.book.specs.Book.{Book, Rule}
 use Rattle.book.specs.declared.Book.{Book as PlacedBook}
 use Rattle.book.specs.declared.BookVerdict.{BookVerdict}
-use Rattle.book.specs.declared.BookVerdict.the-variants.{Readable, Ended, UnknownKind, NotAllowed, BadBody, TooMany, AfterEnd}
+use Rattle.book.specs.declared.BookVerdict.the-variants.{Readable, Refused}
 use Rattle.book.specs.declared.ReadBook.{ReadBook}
-use Rattle.book.specs.declared.Refused.{Refused}
 
 -- The node of two bytes: "3 symbol node, body the symbol number; 4 variable node, body the variable number".
 unfoldable pub nodeOf : (kind body : ℕ) → Node
@@ -46,24 +46,10 @@ rulesBefore bytes b (suc i) = rulesBefore bytes b i ++ (ruleAt bytes b i ∷ [])
 unfoldable pub bookAt : (bytes : List ℕ) → PlacedBook → Book
 bookAt bytes b = record { arities = aritiesOf b; rules = rulesBefore bytes b (b .rules) }
 
--- The verdict's number and place, or the book.
+-- The book, or the number and the place of its refusal.
 unfoldable pub told : BookVerdict → Book → Reply Book
 told Readable book = given book
-told (Ended p) book = refused (1 at p)
-told (UnknownKind p) book = refused (2 at p)
-told (NotAllowed p) book = refused (3 at p)
-told (BadBody p) book = refused (4 at p)
-told (TooMany p) book = refused (5 at p)
-told (AfterEnd p) book = refused (6 at p)
+told (Refused r) book = refused (numbered r)
 
 unfoldable pub meaning : (bytes : List ℕ) → ReadBook → Reply Book
 meaning bytes r = told (r .verdict) (bookAt bytes (r .book))
-
--- "Refusals by number": a refusal's number and place; 0 and 0 where something was given, as no refusal has the number 0.
-abbrev pub inNumbers : Reply Book → Refused
-inNumbers (given book) = record { number = 0; place = 0 }
-inNumbers (refused r) = record { number = r .number; place = r .place }
-
--- The refusal of a book that cannot be read, 1 to 6; 0 at 0 for a readable book, which has none.
-unfoldable pub refusedBy : BookVerdict → Refused
-refusedBy verdict = inNumbers (told verdict (record { arities = []; rules = [] }))

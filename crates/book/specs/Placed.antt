@@ -6,12 +6,13 @@ use mathlib.Core.List.{List}
 use lib.Dec.{leb, ltb, eqb}
 use lib.ListN.{length, getD, set, replicate}
 use Rattle.reply.specs.Reply.{Attempt, given, refused, unless, _>>_}
+use Rattle.reply.specs.declared.Refusal.{Refusal as Named}
+use Rattle.reply.specs.declared.Refusal.the-variants.{BookEnded, UnknownKind, NotAllowed, BadBody, TooMany, AfterEnd}
 use Rattle.term.specs.Tables.{Kind, unknown, symbol, rule, symbolNode, variableNode, end, kindOf, bodyLength}
 use Rattle.term.specs.Prefix.{Node, symbolic, variable, arityOf}
 use Rattle.book.specs.Reading.{known}
 use Rattle.book.specs.declared.Book.{Book as PlacedBook}
-use Rattle.book.specs.declared.BookVerdict.{BookVerdict}
-use Rattle.book.specs.declared.BookVerdict.the-variants.{Readable, Ended, UnknownKind, NotAllowed, BadBody, TooMany, AfterEnd}
+use Rattle.book.specs.declared.BookVerdict as verdict
 use Rattle.book.specs.declared.Checked.{Checked}
 use Rattle.book.specs.declared.Checked.the-variants.{Taken, Refused}
 use Rattle.book.specs.declared.ReadBook.{ReadBook}
@@ -130,17 +131,17 @@ roomLeft variableNode symbols rules nodes = ltb nodes 10
 roomLeft end symbols rules nodes = true
 
 -- "in one record the order is 2, 1, 3, 4, 5." `len` is the book's length, `p` the place of the kind byte k, `b` the byte behind it.
-unfoldable pub checked : (len p k b : ℕ) → Stage → (symbols rules nodes : ℕ) → Attempt BookVerdict (Unit {0})
+unfoldable pub checked : (len p k b : ℕ) → Stage → (symbols rules nodes : ℕ) → Attempt Named (Unit {0})
 checked len p k b stage symbols rules nodes = do
   unless (known (kindOf k)) (UnknownKind p)
-  unless (leb (p + 1 + bodyLength k) len) (Ended len)
+  unless (leb (p + 1 + bodyLength k) len) (BookEnded len)
   unless (allowed (kindOf k) stage) (NotAllowed p)
   unless (bodyFits (kindOf k) symbols b) (BadBody (p + 1))
   unless (roomLeft (kindOf k) symbols rules nodes) (TooMany p)
 
-unfoldable pub checkedAs : Attempt BookVerdict (Unit {0}) → Checked
+unfoldable pub checkedAs : Attempt Named (Unit {0}) → Checked
 checkedAs (given t) = Taken
-checkedAs (refused v) = Refused v
+checkedAs (refused r) = Refused r
 
 -- A side is whole when no subterm is missing: the left side gives way to the right, which starts at e, and the right ends its rule.
 unfoldable pub sideAfter : Stage → PlacedBook → (e missing nodes : ℕ) → Reader
@@ -164,14 +165,14 @@ next variableNode q p b = nodeTaken q (p + 2) (variable b)
 next end q p b = q
 
 -- "Then kind 5 and nothing more": 6 at the first byte after the end, which is at p.
-unfoldable pub ended : (len : ℕ) → PlacedBook → (p : ℕ) → Attempt BookVerdict PlacedBook
+unfoldable pub ended : (len : ℕ) → PlacedBook → (p : ℕ) → Attempt Named PlacedBook
 ended len b p = do
   unless (leb len p) (AfterEnd p)
   given b
 
 -- "Book records are read left to right", from the one at p on. Each record has a byte at least, so the book's length is fuel enough.
-unfoldable pub placedFrom : (fuel : ℕ) (bytes : List ℕ) → Reader → (p : ℕ) → Attempt BookVerdict PlacedBook
-placedFrom zero bytes q p = refused (Ended (length bytes))
+unfoldable pub placedFrom : (fuel : ℕ) (bytes : List ℕ) → Reader → (p : ℕ) → Attempt Named PlacedBook
+placedFrom zero bytes q p = refused (BookEnded (length bytes))
 placedFrom (suc fuel) bytes q p =
     let k = getD bytes p 0 in
     let b = getD bytes (p + 1) 0 in
@@ -182,16 +183,16 @@ placedFrom (suc fuel) bytes q p =
           | true ↦ ended (length bytes) (q .book) (p + 1)
           | false ↦ placedFrom fuel bytes (next (kindOf k) q p b) (p + 1 + bodyLength k)
         ]
-      | false ↦ refused (Ended (length bytes))
+      | false ↦ refused (BookEnded (length bytes))
     ]
 
 unfoldable pub start : Reader
 start = record { book = nothingRead; stage = BeforeRules; missing = 0; nodes = 0 }
 
--- The struct of an attempt: the places that were read, or the verdict that refused them.
-unfoldable pub answer : Attempt BookVerdict PlacedBook → ReadBook
-answer (given b) = record { verdict = Readable; book = b }
-answer (refused v) = record { verdict = v; book = nothingRead }
+-- The struct of an attempt: the places that were read, or the refusal with nothing read.
+unfoldable pub answer : Attempt Named PlacedBook → ReadBook
+answer (given b) = record { verdict = verdict.the-variants.Readable; book = b }
+answer (refused r) = record { verdict = verdict.the-variants.Refused r; book = nothingRead }
 
 -- The answered struct of a book, from its bytes.
 unfoldable pub placed : List ℕ → ReadBook

@@ -1,4 +1,5 @@
 // Reading books and records. The definitions stand in specs/.
+use reply::Refusal;
 ghost use mathlib.Core.Path.{_≡_};
 ghost use Prim.Native.Nat.{ℕ, _<_, min};
 ghost use lib.ListN.{length, getD, take, drop};
@@ -6,9 +7,9 @@ ghost use Rattle.reply.specs.Reply.{refused};
 ghost use Rattle.term.specs.Tables.{kindOf};
 ghost use Rattle.term.specs.Prefix.{arityOf};
 ghost use Rattle.book.specs.Reading.{known, readBook};
-ghost use Rattle.book.specs.Record.{recordNode, recordEnd, recordTerm};
+ghost use Rattle.book.specs.Record.{faultRefusal, recordNode, recordEnd, recordTerm};
 ghost use Rattle.book.specs.RecordMeaning.{recordMeaning, recordVerdict, nodeFound, endFound};
-ghost use Rattle.book.specs.Meaning.{nodeOf, meaning, refusedBy};
+ghost use Rattle.book.specs.Meaning.{nodeOf, meaning};
 ghost use Rattle.book.specs.Placed.{nothingRead, sideOpen, noRuleYet, allowed, bodyFits, roomLeft, checked, checkedAs, ended, answer, placed};
 
 // A book that was read, as places in its bytes. Symbol f has arity arities[f]. The left side of rule i stands from left_at[i] on
@@ -23,15 +24,10 @@ pub struct Book {
     pub right_nodes: [usize; 32],
 }
 
-// What reading a book finds: it is readable, or one of the refusals 1 to 6 with its place.
+// What reading a book finds: it is readable, or one of the refusals 1 to 6.
 pub enum BookVerdict {
     Readable,
-    Ended(usize),
-    UnknownKind(usize),
-    NotAllowed(usize),
-    BadBody(usize),
-    TooMany(usize),
-    AfterEnd(usize),
+    Refused(Refusal),
 }
 
 // The verdict, and the book that was read; nothing read beside a refusal.
@@ -52,7 +48,7 @@ enum Stage {
 // Whether one record is taken.
 enum Checked {
     Taken,
-    Refused(BookVerdict),
+    Refused(Refusal),
 }
 
 // A byte as a number.
@@ -85,12 +81,15 @@ fn nothing_read() -> Book
     }
 }
 
-// A refused reading: the verdict, with nothing read.
-fn refuse(verdict: BookVerdict) -> ReadBook
-    ensures { λ r. ⌜ r ≡ answer (refused verdict) ⌝ }
+// A refused reading, with nothing read.
+fn refuse(refusal: Refusal) -> ReadBook
+    ensures { λ r. ⌜ r ≡ answer (refused refusal) ⌝ }
 {
     let book = nothing_read();
-    ReadBook { verdict, book }
+    ReadBook {
+        verdict: BookVerdict::Refused(refusal),
+        book,
+    }
 }
 
 // Kinds 1 to 5.
@@ -178,22 +177,22 @@ fn check_record(
     ensures { λ r. ⌜ r ≡ checkedAs (checked len at kind body stage symbols rules nodes) ⌝ }
 {
     if !is_known(kind) {
-        return Checked::Refused(BookVerdict::UnknownKind(at));
+        return Checked::Refused(Refusal::UnknownKind(at));
     }
     if len - at - 1 < term::body_length(kind) {
-        return Checked::Refused(BookVerdict::Ended(len));
+        return Checked::Refused(Refusal::BookEnded(len));
     }
     let allowed = is_allowed(kind, stage);
     let fits = body_fits(kind, symbols, body);
     let room = room_left(kind, symbols, rules, nodes);
     if !allowed {
-        return Checked::Refused(BookVerdict::NotAllowed(at));
+        return Checked::Refused(Refusal::NotAllowed(at));
     }
     if !fits {
-        return Checked::Refused(BookVerdict::BadBody(at + 1));
+        return Checked::Refused(Refusal::BadBody(at + 1));
     }
     if !room {
-        return Checked::Refused(BookVerdict::TooMany(at));
+        return Checked::Refused(Refusal::TooMany(at));
     }
     Checked::Taken
 }
@@ -217,7 +216,7 @@ fn finish(len: usize, book: Book, at: usize) -> ReadBook
     ensures { λ r. ⌜ r ≡ answer (ended len book at) ⌝ }
 {
     if at < len {
-        refuse(BookVerdict::AfterEnd(at))
+        refuse(Refusal::AfterEnd(at))
     } else {
         ReadBook {
             verdict: BookVerdict::Readable,
@@ -243,8 +242,8 @@ pub fn read_book(bytes: &[u8]) -> ReadBook
         let symbols = book.symbols;
         let rules = book.rules;
         let checked = check_record(bytes.len(), at, kind, body, stage, symbols, rules, nodes);
-        if let Checked::Refused(verdict) = checked {
-            return refuse(verdict);
+        if let Checked::Refused(refusal) = checked {
+            return refuse(refusal);
         }
         at += 1 + term::body_length(kind);
         if kind == 5 {
@@ -280,39 +279,11 @@ pub fn read_book(bytes: &[u8]) -> ReadBook
             }
         }
     }
-    refuse(BookVerdict::Ended(bytes.len()))
+    refuse(Refusal::BookEnded(bytes.len()))
 }
 
-// "Refusals by number": the number and the place of a refusal.
-pub struct Refused {
-    pub number: u64,
-    pub place: usize,
-}
-
-fn numbered(number: u64, place: usize) -> Refused
-    ensures { λ r. ⌜ r ≡ record { number = number; place = place } ⌝ }
-{
-    Refused { number, place }
-}
-
-// The refusal of a book that cannot be read, 1 to 6; 0 at 0 for a readable book, which has none.
-pub fn refused_by(verdict: BookVerdict) -> Refused
-    ensures { λ r. ⌜ r ≡ refusedBy verdict ⌝ }
-{
-    match verdict {
-        BookVerdict::Readable => numbered(0, 0),
-        BookVerdict::Ended(place) => numbered(1, place),
-        BookVerdict::UnknownKind(place) => numbered(2, place),
-        BookVerdict::NotAllowed(place) => numbered(3, place),
-        BookVerdict::BadBody(place) => numbered(4, place),
-        BookVerdict::TooMany(place) => numbered(5, place),
-        BookVerdict::AfterEnd(place) => numbered(6, place),
-    }
-}
-
-// What reading a record finds: a whole term of so many nodes and then the end, or the first fault with its byte.
-pub enum RecordVerdict {
-    Whole(usize),
+// What can be wrong with a record, each with the byte at which it is.
+pub enum RecordFault {
     EndedEarly(usize),
     WrongKind(usize),
     NotDeclared(usize),
@@ -320,10 +291,29 @@ pub enum RecordVerdict {
     AfterTheTerm(usize),
 }
 
+// What reading a record finds: a whole term of so many nodes and then the end, or the first fault.
+pub enum RecordVerdict {
+    Whole(usize),
+    Faulty(RecordFault),
+}
+
+// The refusal of a record with this fault.
+pub fn record_refusal(fault: RecordFault) -> Refusal
+    ensures { λ r. ⌜ r ≡ faultRefusal fault ⌝ }
+{
+    match fault {
+        RecordFault::EndedEarly(_) => Refusal::BadRecord,
+        RecordFault::WrongKind(_) => Refusal::BadRecord,
+        RecordFault::NotDeclared(_) => Refusal::BadRecord,
+        RecordFault::TooManyNodes(_) => Refusal::BadRecord,
+        RecordFault::AfterTheTerm(_) => Refusal::BadRecord,
+    }
+}
+
 // One node of a record: its symbol, or what is wrong with it.
 enum NodeFound {
     Symbol(usize),
-    Faulty(RecordVerdict),
+    Faulty(RecordFault),
 }
 
 // How many symbols a table of 16 arities declares.
@@ -339,21 +329,21 @@ fn node_at(bytes: &[u8], at: usize, nodes: usize, symbols: usize) -> NodeFound
 {
     let len = bytes.len();
     if len <= at {
-        return NodeFound::Faulty(RecordVerdict::EndedEarly(len));
+        return NodeFound::Faulty(RecordFault::EndedEarly(len));
     }
     let kind = bytes[at];
     if kind != 3 {
-        return NodeFound::Faulty(RecordVerdict::WrongKind(at));
+        return NodeFound::Faulty(RecordFault::WrongKind(at));
     }
     if len - at - 1 < term::body_length(kind) {
-        return NodeFound::Faulty(RecordVerdict::EndedEarly(len));
+        return NodeFound::Faulty(RecordFault::EndedEarly(len));
     }
     let symbol = wide(bytes[at + 1]);
     if symbols <= symbol {
-        return NodeFound::Faulty(RecordVerdict::NotDeclared(at + 1));
+        return NodeFound::Faulty(RecordFault::NotDeclared(at + 1));
     }
     if 256 <= nodes {
-        return NodeFound::Faulty(RecordVerdict::TooManyNodes(at));
+        return NodeFound::Faulty(RecordFault::TooManyNodes(at));
     }
     NodeFound::Symbol(symbol)
 }
@@ -364,13 +354,13 @@ fn end_at(bytes: &[u8], at: usize, nodes: usize) -> RecordVerdict
 {
     let len = bytes.len();
     if len <= at {
-        return RecordVerdict::EndedEarly(len);
+        return RecordVerdict::Faulty(RecordFault::EndedEarly(len));
     }
     if bytes[at] != 5 {
-        return RecordVerdict::AfterTheTerm(at);
+        return RecordVerdict::Faulty(RecordFault::AfterTheTerm(at));
     }
     if at + 1 < len {
-        return RecordVerdict::AfterTheTerm(at + 1);
+        return RecordVerdict::Faulty(RecordFault::AfterTheTerm(at + 1));
     }
     RecordVerdict::Whole(nodes)
 }
@@ -387,8 +377,8 @@ pub fn read_record(bytes: &[u8], symbols: usize, arities: [u8; 16]) -> RecordVer
     while 0 < missing {
         let found = node_at(bytes, at, nodes, declared);
         match found {
-            NodeFound::Faulty(verdict) => {
-                return verdict;
+            NodeFound::Faulty(fault) => {
+                return RecordVerdict::Faulty(fault);
             }
             NodeFound::Symbol(symbol) => {
                 missing = missing - 1 + wide(arities[symbol]);

@@ -5,21 +5,21 @@ use native.Mathlib.Omega.{arith}
 use borrow.Author.Needs.{needs}
 use lib.ListN.{length, getD}
 use Rattle.term.specs.Tables.{bodyLength, bodyLengths}
-use Rattle.book.specs.RecordMeaning.{faultVerdict, nodeFound}
+use Rattle.book.specs.RecordMeaning.{nodeFound}
 use Rattle.book.specs.declared.NodeFound.the-variants.{Symbol}
 use Rattle.book.proofs.RecordSteps.{no-node, wrong-kind, node-cut, not-declared, too-many, node-given}
 use Rattle.book.proofs.node_at.Statement.{statement}
 use Rattle.book.proofs.node_at.Tie as tie
 
 returns : tie.Need-returns
-unfolding nodeFound faultVerdict
+unfolding nodeFound
 returns c = let a = c .before .before .args in ap nodeFound (sym (no-node (a .bytes .now) (a .symbols) (a .nodes) (a .at) (c .if1 .taken)))
 
 shared-slice-read-kind : tie.Need-shared-slice-read-kind
 shared-slice-read-kind c = search needs
 
 returns-2 : tie.Need-returns-2
-unfolding nodeFound faultVerdict
+unfolding nodeFound
 returns-2 c = let a = c .before .before .before .before .args in ap nodeFound (sym (wrong-kind (a .bytes .now) (a .symbols) (a .nodes) (a .at) (omega arith) (c .if2 .taken)))
 
 sub-if3 : tie.Need-sub-if3
@@ -32,7 +32,7 @@ body-length-requires : tie.Need-body-length-requires
 body-length-requires c κs = search needs
 
 returns-3 : tie.Need-returns-3
-unfolding nodeFound faultVerdict
+unfolding nodeFound
 returns-3 c =
     let a = c .before .before .before .before .before .before .args in
     ap nodeFound
@@ -56,14 +56,14 @@ add-t18 : tie.Need-add-t18
 add-t18 c = search needs
 
 returns-4 : tie.Need-returns-4
-unfolding nodeFound faultVerdict
+unfolding nodeFound
 returns-4 c =
     let a = c .before .before .before .before .before .before .before .before .before .args in
     ap nodeFound
     (sym (not-declared (a .bytes .now) (a .symbols) (a .nodes) (a .at) (omega arith) (c .before .before .before .before .before .if2 .left) (whole-here (c .before .before .before)) (omega (arith, c .before .wide .ensures .0))))
 
 returns-5 : tie.Need-returns-5
-unfolding nodeFound faultVerdict
+unfolding nodeFound
 returns-5 c =
     let a = c .before .before .before .before .before .before .before .before .before .before .args in
     ap nodeFound

@@ -8,9 +8,11 @@ use borrow.Author.Needs.{needs}
 use lib.ListN.{length, getD, take, drop, length-take}
 use lib.Seq.{getD-take}
 use Rattle.reply.specs.Reply.{Attempt, given}
-use Rattle.book.specs.Record.{Fault, recordTerm, recordNode}
+use Rattle.book.specs.Record.{recordTerm, recordNode}
+use Rattle.book.specs.declared.RecordFault.{RecordFault}
 use Rattle.book.specs.RecordMeaning.{recordMeaning, recordVerdict, nodeFound}
 use Rattle.book.specs.declared.RecordVerdict.{RecordVerdict}
+use Rattle.book.specs.declared.RecordVerdict.the-variants.{Faulty}
 use Rattle.book.proofs.RecordStands.{record-means}
 use Rattle.book.proofs.RecordGoing.{NodesGoing, nodes-start, NodePassed, node-passed, found-symbol, found-faulty, node-faulty, node-on, term-whole}
 use Rattle.book.proofs.read_record.Statement.{statement}
@@ -32,7 +34,7 @@ bytes-of c = c .before .before .before .before .before .args .bytes .now
 abbrev symbols-of : Asked → List ℕ
 symbols-of c = let a = c .before .before .before .before .before .args in take (a .symbols) (a .t3)
 
-abbrev node-asked : Asked → Attempt Fault ℕ
+abbrev node-asked : Asked → Attempt RecordFault ℕ
 node-asked c = recordNode (length (symbols-of c)) (length (bytes-of c)) (c .before .before .loop .nodes) (c .before .before .loop .at) (drop (c .before .before .loop .at) (bytes-of c))
 
 -- The table's first symbols are as many as are declared.
@@ -81,11 +83,11 @@ returns : tie.Need-returns Inv-loop μ-loop
 unfolding recordVerdict
 returns c =
     let a = c .before .before .before in
-    let (f, is, told) = found-faulty (node-asked a) (c .before .found .given .0 .0) (sym (node-told a) ∙ c .before .found .given .1) in
-    promised (bytes-of a) (symbols-of a) (c .before .found .given .0 .0)
-    (told
-    ∙ ap recordVerdict
-    (sym (node-faulty (bytes-of a) (symbols-of a) (a .before .before .loop .missing) (a .before .before .loop .nodes) (a .before .before .loop .at) (a .before .before .loop .inv) (a .before .loop-test .taken) f is)))
+    let f = c .before .found .given .0 .0 in
+    promised (bytes-of a) (symbols-of a) (Faulty f)
+    (ap recordVerdict
+    (sym (node-faulty (bytes-of a) (symbols-of a) (a .before .before .loop .missing) (a .before .before .loop .nodes) (a .before .before .loop .at) (a .before .before .loop .inv) (a .before .loop-test .taken) f
+    (found-faulty (node-asked a) f (sym (node-told a) ∙ c .before .found .given .1)))))
 
 enum-known-found-2 : tie.Need-enum-known-found-2 Inv-loop μ-loop
 enum-known-found-2 c = search needs
