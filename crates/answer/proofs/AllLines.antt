@@ -8,7 +8,7 @@ use lib.Dec.{eqb}
 use lib.ListN.{length, take, drop, length-drop, drop-of-length-le}
 use lib.Seq.{length-take-le}
 use Rattle.reply.specs.Reply.{Refusal, Reply, given, refused, _>>=_, _at_}
-use Rattle.reply.specs.Text.{pieces, newline}
+use Rattle.text.specs.Text.{pieces, newline}
 use Rattle.answer.specs.Values.{Values, unclosed, closed}
 use Rattle.answer.specs.Lines.{Said, nothing, satisfied, noModel, lineOf, lineAfter, linesAfter, whole, readAnswer}
 use Rattle.answer.specs.Places.{upTo}

@@ -4,7 +4,7 @@ use Prim.Native.String.{String}
 use mathlib.Core.Path.{_≡_, refl}
 use mathlib.Core.List.{List, [], _∷_}
 use Rattle.reply.specs.Reply.{Reply, given, refused, _at_}
-use Rattle.reply.specs.Text.{ascii}
+use Rattle.text.specs.Text.{ascii}
 use Rattle.book.specs.Examples.{fx-to-gx, onlyEnd}
 use Rattle.answer.specs.Ranks.{ranksFromAnswer}
 use Rattle.answer.specs.Computing.{computing}

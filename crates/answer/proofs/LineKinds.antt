@@ -7,7 +7,7 @@ use native.Mathlib.Omega.{arith}
 use lib.ListN.{length, getD, take, drop}
 use lib.Seq.{take-all}
 use borrow.Author.Tests.{ne-eqb}
-use Rattle.reply.specs.Text.{ascii, sameText, space, words}
+use Rattle.text.specs.Text.{ascii, sameText, space, words}
 use Rattle.answer.specs.Lines.{comment, verdict, noLine, itemLine, valueLine, verdictLine, lineOf}
 
 -- "`s SATISFIABLE`, `s UNSATISFIABLE` or `s UNKNOWN`"

@@ -12,7 +12,7 @@ use lib.Dec.{leb}
 use lib.ListN.{length, getD, drop, drop-of-length-le}
 use lib.Seq.{drop-cons}
 use borrow.Author.Tests.{le-leb, lt-leb, ne-eqb}
-use Rattle.reply.specs.Decimal.{valueOf, number}
+use Rattle.text.specs.Decimal.{valueOf, number}
 use Rattle.answer.specs.Items.{within}
 
 module _ (v d : ℕ) (ds : List ℕ) where

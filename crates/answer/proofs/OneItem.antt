@@ -10,8 +10,8 @@ use lib.Dec.{leb}
 use lib.ListN.{length, getD, take, drop}
 use lib.Seq.{take-all}
 use borrow.Author.Tests.{le-leb, lt-leb, ne-eqb, leb-true}
-use Rattle.reply.specs.Decimal.{number}
-use Rattle.reply.specs.Text.{ascii, sameText}
+use Rattle.text.specs.Decimal.{number}
+use Rattle.text.specs.Text.{ascii, sameText}
 use Rattle.clauses.specs.Cnf.{Literal, is, isNot}
 use Rattle.clauses.specs.Item.{Item, closing, literal, faulty, signed, literalOf, item}
 use Rattle.answer.specs.Values.{variableOf}

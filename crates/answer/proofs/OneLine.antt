@@ -5,7 +5,7 @@ use mathlib.Core.List.{List, [], _∷_}
 use mathlib.Core.Path.{_≡_, refl}
 use native.Mathlib.Omega.{arith}
 use Rattle.reply.specs.Reply.{Refusal, refused, _>>=_}
-use Rattle.reply.specs.Text.{ascii, sameText, space, words}
+use Rattle.text.specs.Text.{ascii, sameText, space, words}
 use Rattle.clauses.specs.Cnf.{Literal}
 use Rattle.answer.specs.Values.{unclosed, closed, itemAfter, itemsAfter}
 use Rattle.answer.specs.Lines.{Line, verdict, noLine, Said, nothing, satisfied, noModel, itemLine, valueLine, verdictLine, lineOf, verdictAfter, valuesAfter, lineAfter}

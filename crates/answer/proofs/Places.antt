@@ -8,7 +8,7 @@ use native.Mathlib.Numerals.{add-one}
 use native.Mathlib.Omega.{arith}
 use lib.ListN.{length, getD, take, drop, length-drop, drop-of-length-le}
 use lib.Seq.{drop-cons, drop-drop}
-use Rattle.reply.specs.Text.{pieces, ontoFirst, nonempty, words}
+use Rattle.text.specs.Text.{pieces, ontoFirst, nonempty, words}
 use Rattle.answer.specs.Places.{upTo}
 
 module _ (ends : ℕ → Bool) where

@@ -9,7 +9,7 @@ use lib.Dec.{eqb}
 use lib.ListN.{length, getD, drop, drop-of-length-le}
 use lib.Seq.{drop-cons}
 use borrow.Author.Tests.{eq-eqb, ne-eqb}
-use Rattle.reply.specs.Text.{sameText}
+use Rattle.text.specs.Text.{sameText}
 
 -- Texts of different lengths differ.
 pub longer-or-shorter : (l m : List ℕ) → (length l ≡ length m → ⊥) → sameText l m ≡ false

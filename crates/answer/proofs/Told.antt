@@ -8,7 +8,7 @@ use mathlib.Core.Path.{_≡_, refl, sym, ap, subst, _∙_}
 use lib.Dec.{leb, eqb}
 use lib.ListN.{length}
 use Rattle.reply.specs.Reply.{Refusal, Reply, given, refused, unless, _>>_, _>>=_, _at_}
-use Rattle.reply.specs.Text.{pieces, newline}
+use Rattle.text.specs.Text.{pieces, newline}
 use Rattle.clauses.specs.Cnf.{Literal, Assignment}
 use Rattle.clauses.specs.Item.{Item, closing, literal, faulty, item}
 use Rattle.answer.specs.Values.{Values, unclosed, closed, variableOf, names, named, itemAfter, itemsAfter}

@@ -6,7 +6,7 @@ use mathlib.Core.Path.{_≡_, refl, sym, ap, _∙_}
 use native.Mathlib.Omega.{arith}
 use lib.Dec.{eqb}
 use lib.ListN.{length, take, drop, drop-of-length-le}
-use Rattle.reply.specs.Text.{pieces, space, nonempty, words}
+use Rattle.text.specs.Text.{pieces, space, nonempty, words}
 use Rattle.reply.specs.Reply.{Refusal, Reply, given, refused, _>>=_}
 use Rattle.clauses.specs.Cnf.{Literal}
 use Rattle.clauses.specs.Item.{item}

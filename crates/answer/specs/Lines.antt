@@ -4,7 +4,7 @@ use mathlib.Core.Bool.{Bool, true, false, _||_}
 use mathlib.Core.List.{List, [], _∷_}
 use lib.ListN.{length}
 use Rattle.reply.specs.Reply.{Refusal, Reply, given, refused, _>>_, _>>=_, _at_}
-use Rattle.reply.specs.Text.{ascii, sameText, pieces, newline, space, words}
+use Rattle.text.specs.Text.{ascii, sameText, pieces, newline, space, words}
 use Rattle.clauses.specs.Cnf.{Literal}
 use Rattle.answer.specs.Values.{Values, unclosed, closed, itemsAfter}
 

@@ -2,7 +2,7 @@
 use crate::text::same;
 ghost use mathlib.Core.Path.{_≡_};
 ghost use mathlib.Core.List.{[], _∷_};
-ghost use Rattle.reply.specs.Decimal.{valueOf, number};
+ghost use Rattle.text.specs.Decimal.{valueOf, number};
 ghost use Rattle.clauses.specs.Item.{item};
 ghost use Rattle.answer.specs.Items.{within, itemTold};
 

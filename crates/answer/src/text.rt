@@ -3,7 +3,7 @@ ghost use mathlib.Core.Path.{_≡_};
 ghost use Prim.Native.Nat.{_+_};
 ghost use lib.Dec.{eqb};
 ghost use lib.ListN.{drop};
-ghost use Rattle.reply.specs.Text.{sameText};
+ghost use Rattle.text.specs.Text.{sameText};
 ghost use Rattle.answer.specs.Places.{upTo};
 
 // The first place from `at` on that holds the byte `end`; where there is none, the text's length.

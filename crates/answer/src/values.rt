@@ -6,7 +6,7 @@ ghost use mathlib.Core.Path.{_≡_};
 ghost use mathlib.Core.List.{List};
 ghost use Prim.Native.Nat.{_≤_};
 ghost use Rattle.reply.specs.Reply.{Refusal, Reply};
-ghost use Rattle.reply.specs.Text.{space, words};
+ghost use Rattle.text.specs.Text.{space, words};
 ghost use Rattle.clauses.specs.Cnf.{Literal};
 ghost use Rattle.answer.specs.Values.{Values, unclosed, variableOf, named};
 ghost use Rattle.answer.specs.Lines.{satisfied, itemLine, lineAfter};

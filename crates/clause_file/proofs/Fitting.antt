@@ -13,8 +13,8 @@ use borrow.Author.Tests.{le-leb, lt-leb}
 use borrow.Rule.Slice.PartMut.{midOf, putMid}
 use Rattle.reply.specs.Reply.{given}
 use Rattle.reply.specs.Lent.{laid}
-use Rattle.clauses.specs.Laying.{Lays}
-use Rattle.clauses.proofs.Laid.{lays-nothing, lays-as, lays-then, laid-remainder}
+use Rattle.text.specs.Laying.{Lays}
+use Rattle.text.proofs.Laying.{lays-nothing, lays-as, lays-then, laid-remainder}
 use Rattle.clauses.proofs.Lists.{flatten-append}
 use Rattle.clause_file.specs.declared.Filled.{Filled}
 use Rattle.clause_file.specs.Filling.{ifRoom, fitting, FilledWith}

@@ -18,7 +18,7 @@ use Rattle.book.specs.declared.BookVerdict.{BookVerdict}
 use Rattle.book.specs.declared.BookVerdict.the-variants.{Readable, Ended, UnknownKind, NotAllowed, BadBody, TooMany, AfterEnd}
 use Rattle.order.specs.Meaning.{refusalOnly}
 use Rattle.clauses.specs.File.{fileBlocks, numberedBlock, blockOf, block}
-use Rattle.clauses.specs.Laying.{Lays}
+use Rattle.text.specs.Laying.{Lays}
 use Rattle.clauses.specs.Written.{writtenMeaning}
 use Rattle.clauses.specs.declared.Written.{Written}
 use Rattle.clauses.specs.declared.Written.the-variants.{Laid, Unreadable, NoBlock, ShortBuffer}

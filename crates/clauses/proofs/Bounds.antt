@@ -5,8 +5,8 @@ use mathlib.Core.List.{List, [], _∷_, flatMap, flatten, List·Memᴰ}
 use native.Mathlib.Nat.{mul-le-mul}
 use native.Mathlib.Omega.{arith}
 use lib.ListN.{length, length-append}
-use Rattle.reply.specs.Text.{ascii}
-use Rattle.reply.proofs.Decimal.{decimal-length}
+use Rattle.text.specs.Text.{ascii}
+use Rattle.text.proofs.Decimal.{decimal-length}
 use Rattle.reply.proofs.Every.{Every, every-map, every-both, every-member}
 use Rattle.term.specs.Tables.{rankBits}
 use Rattle.term.proofs.Tables.{rank-bits-least}

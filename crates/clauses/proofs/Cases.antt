@@ -4,7 +4,7 @@ use mathlib.Core.Path.{_≡_, refl}
 use mathlib.Core.List.{List, [], _∷_}
 use mathlib.Core.Option.{Option, none, some}
 use Rattle.reply.specs.Reply.{given, refused, _at_}
-use Rattle.reply.specs.Text.{ascii}
+use Rattle.text.specs.Text.{ascii}
 use Rattle.book.specs.Examples.{fx-to-gx, x-to-x}
 use Rattle.clauses.specs.Cnf.{Literal, is, isNot, Cnf}
 use Rattle.clauses.specs.File.{block, clauseProgram}

@@ -8,12 +8,12 @@ use mathlib.Core.Option.{some}
 use mathlib.Core.Path.{_≡_, refl, sym, ap, _∙_}
 use lib.Dec.{eqb, eqb-refl}
 use lib.ListN.{length}
-use Rattle.reply.specs.Decimal.{decimal, number}
-use Rattle.reply.specs.Text.{ascii, sameText, space, newline, words}
-use Rattle.reply.proofs.Decimal.{number-decimal, decimal-nonempty}
+use Rattle.text.specs.Decimal.{decimal, number}
+use Rattle.text.specs.Text.{ascii, sameText, space, newline, words}
+use Rattle.text.proofs.Decimal.{number-decimal, decimal-nonempty}
 use Rattle.reply.proofs.Every.{Every, every-flatten}
 use Rattle.reply.proofs.Tests.{is-true}
-use Rattle.reply.proofs.Words.{words-first}
+use Rattle.text.proofs.Words.{words-first}
 use Rattle.reply.specs.Reply.{given}
 use Rattle.book.specs.Book.{Book}
 use Rattle.book.specs.Limits.{WithinLimits}

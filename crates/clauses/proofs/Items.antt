@@ -8,12 +8,12 @@ use mathlib.Core.Path.{_≡_, refl, ap}
 use native.Mathlib.Omega.{arith}
 use lib.Dec.{T, leb, eqb, le→leb, eqb→eq}
 use lib.ListN.{getD}
-use Rattle.reply.specs.Decimal.{decimal, number}
-use Rattle.reply.specs.Text.{ascii, sameText, space, newline}
-use Rattle.reply.proofs.Decimal.{Digit, number-decimal, decimal-digits, decimal-nonempty, decimal-zero}
+use Rattle.text.specs.Decimal.{decimal, number}
+use Rattle.text.specs.Text.{ascii, sameText, space, newline}
+use Rattle.text.proofs.Decimal.{Digit, number-decimal, decimal-digits, decimal-nonempty, decimal-zero}
 use Rattle.reply.proofs.Every.{Every, every-implied}
 use Rattle.reply.proofs.Tests.{is-true, is-false}
-use Rattle.reply.proofs.Words.{same-text}
+use Rattle.text.proofs.Words.{same-text}
 use Rattle.clauses.specs.Cnf.{Literal, is, isNot, Clause}
 use Rattle.clauses.specs.Item.{literal, signed, literalOf, item}
 use Rattle.clauses.specs.Dimacs.{blank}

@@ -26,7 +26,6 @@ pub mod Weights
 pub mod Counts
 pub mod Bounds
 pub mod Laid
-pub mod LastDigit
 pub mod Lists
 pub mod BothWays
 pub mod PairNumbers

@@ -5,8 +5,8 @@ use mathlib.Core.List.{List, [], _∷_, _++_}
 use mathlib.Core.Option.{Option, none, some}
 use lib.Dec.{eqb}
 use lib.ListN.{length, getD, drop}
-use Rattle.reply.specs.Decimal.{number}
-use Rattle.reply.specs.Text.{ascii, sameText, space, newline, words}
+use Rattle.text.specs.Decimal.{number}
+use Rattle.text.specs.Text.{ascii, sameText, space, newline, words}
 use Rattle.clauses.specs.Cnf.{Literal, Clause, Cnf}
 use Rattle.clauses.specs.Item.{Item, closing, literal, faulty, item}
 

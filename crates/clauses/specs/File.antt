@@ -5,8 +5,8 @@ use mathlib.Core.Option.{Option, none, some}
 use lib.Dec.{leb}
 use lib.ListN.{length, getElem?}
 use Rattle.reply.specs.Reply.{Reply, Attempt, given, refused, unless, _>>_, _>>=_, _at_}
-use Rattle.reply.specs.Decimal.{decimal}
-use Rattle.reply.specs.Text.{ascii, refusedLine}
+use Rattle.text.specs.Decimal.{decimal}
+use Rattle.text.specs.Text.{ascii, refusedLine}
 use Rattle.book.specs.Book.{Book}
 use Rattle.book.specs.Reading.{readBook}
 use Rattle.clauses.specs.Cnf.{Literal, is, isNot, Clause, Cnf}

@@ -4,8 +4,8 @@ use mathlib.Core.Bool.{Bool, true, false, _&&_}
 use mathlib.Core.List.{List, [], _∷_}
 use mathlib.Core.Option.{Option, none, some}
 use lib.Dec.{leb, eqb}
-use Rattle.reply.specs.Decimal.{number}
-use Rattle.reply.specs.Text.{ascii, sameText}
+use Rattle.text.specs.Decimal.{number}
+use Rattle.text.specs.Text.{ascii, sameText}
 use Rattle.clauses.specs.Cnf.{Literal, is, isNot}
 
 -- "An item is a literal or the closing 0."

@@ -4,7 +4,6 @@ pub mod Blocks
 pub mod File
 pub mod Item
 pub mod Dimacs
-pub mod Laying
 pub mod Meaning
 pub mod Pairs
 pub mod Nodes

@@ -3,8 +3,8 @@ use Prim.Native.Nat.{ℕ}
 use mathlib.Core.List.{List, _++_}
 use mathlib.Core.Path.{_≡_}
 use lib.ListN.{getD}
-use Rattle.reply.specs.Decimal.{decimal}
-use Rattle.reply.specs.Text.{ascii}
+use Rattle.text.specs.Decimal.{decimal}
+use Rattle.text.specs.Text.{ascii}
 use Rattle.term.specs.Tables.{rankBits}
 use Rattle.book.specs.Meaning.{bookAt}
 use Rattle.book.specs.Placed.{placed}

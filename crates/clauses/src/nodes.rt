@@ -16,7 +16,7 @@ ghost use Rattle.term.specs.At.{At, ArgsAt, Standing};
 ghost use Rattle.order.specs.Test.{someArg};
 ghost use Rattle.clauses.specs.Blocks.{Numbered, numberedArgs, CAt, partsBehind, partsOfD, partsOfC, someIdentical};
 ghost use Rattle.clauses.specs.File.{clauseBytes};
-ghost use Rattle.clauses.specs.Laying.{Lays};
+ghost use Rattle.text.specs.Laying.{Lays};
 ghost use Rattle.clauses.specs.Meaning.{partsIn};
 ghost use Rattle.clauses.specs.Numbering.{G};
 ghost use Rattle.clauses.specs.Pairs.{Pair};

@@ -8,7 +8,7 @@ ghost use mathlib.Core.Path.{_≡_};
 ghost use Rattle.clauses.specs.Numbering.{bit, pairNumber, G};
 ghost use Rattle.clauses.specs.Blocks.{pairClauses, pairBlock};
 ghost use Rattle.clauses.specs.File.{clauseBytes};
-ghost use Rattle.clauses.specs.Laying.{Lays};
+ghost use Rattle.text.specs.Laying.{Lays};
 ghost use Rattle.clauses.specs.Meaning.{meant};
 ghost use Rattle.clauses.specs.Pairs.{Pair, lowestBit, eachTwo, higherBit};
 

@@ -9,7 +9,7 @@ ghost use mathlib.Core.List.{[], _∷_, _++_, flatMap, map};
 ghost use mathlib.Core.Path.{_≡_};
 ghost use Rattle.clauses.specs.Blocks.{allParts, someParts};
 ghost use Rattle.clauses.specs.File.{clauseBytes};
-ghost use Rattle.clauses.specs.Laying.{Lays};
+ghost use Rattle.text.specs.Laying.{Lays};
 ghost use Rattle.clauses.specs.Meaning.{meant, partsIn, against, partClauses, bothWays};
 
 // The variables of the parts, `many` of them, at most 8: G or D and six arguments are 7.

@@ -12,7 +12,7 @@ ghost use lib.ListN.{length, getD};
 ghost use Rattle.book.specs.Book.{Rule};
 ghost use Rattle.clauses.specs.Blocks.{ruleBlocks};
 ghost use Rattle.clauses.specs.File.{clauseBytes};
-ghost use Rattle.clauses.specs.Laying.{Lays};
+ghost use Rattle.text.specs.Laying.{Lays};
 ghost use Rattle.clauses.specs.Nodes.{settingOf};
 ghost use Rattle.clauses.specs.Rules.{RuleStands, SomeRule};
 

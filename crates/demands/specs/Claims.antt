@@ -4,7 +4,7 @@ use mathlib.Core.Bool.{Bool, true, false, _&&_}
 use mathlib.Core.List.{List, [], _∷_, map, flatMap}
 use lib.Dec.{eqb}
 use Rattle.reply.specs.Reply.{Refusal, Reply, Attempt, given, refused}
-use Rattle.reply.specs.Text.{sameText}
+use Rattle.text.specs.Text.{sameText}
 use Rattle.term.specs.Prefix.{recordBytes}
 use Rattle.book.specs.Book.{Book, symbols}
 use Rattle.book.specs.Reading.{readBook}

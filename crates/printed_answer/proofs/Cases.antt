@@ -2,7 +2,7 @@
 use mathlib.Core.Path.{_≡_, refl}
 use mathlib.Core.List.{[], _∷_, List·Memᴰ·not-nil}
 use lib.Dec.{eqb}
-use Rattle.reply.specs.Text.{ascii}
+use Rattle.text.specs.Text.{ascii}
 use Rattle.clauses.specs.Cnf.{is, isNot}
 use Rattle.printed_answer.specs.Printed.{Remark, remark, literals, printedAnswer}
 use Rattle.printed_answer.specs.Usual.{usualAnswer}

@@ -5,7 +5,7 @@ use mathlib.Core.List.{List, [], _∷_, _++_, map, flatMap, append-assoc, append
 use mathlib.Core.Path.{_≡_, refl, sym, ap, subst, _∙_}
 use lib.ListN.{length}
 use Rattle.reply.specs.Reply.{Refusal, given, _>>=_, _at_}
-use Rattle.reply.specs.Text.{ascii}
+use Rattle.text.specs.Text.{ascii}
 use Rattle.reply.proofs.Given.{given-bind}
 use Rattle.clauses.specs.Cnf.{Literal, Assignment}
 use Rattle.answer.specs.Values.{Values, unclosed, closed, itemsAfter}

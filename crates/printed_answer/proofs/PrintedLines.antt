@@ -6,9 +6,9 @@ use mathlib.Core.Logic.{_≢_}
 use mathlib.Core.Path.{_≡_, refl, sym, ap, subst, _∙_}
 use native.Mathlib.Omega.{arith}
 use borrow.Author.Tests.{ne-eqb}
-use Rattle.reply.specs.Text.{ascii, sameText, pieces, newline, space, words, ontoFirst, nonempty}
+use Rattle.text.specs.Text.{ascii, sameText, pieces, newline, space, words, ontoFirst, nonempty}
 use Rattle.reply.proofs.Every.{Every, every-append, every-implied, every-of-members, every-flatMap}
-use Rattle.reply.proofs.Words.{piece-first, words-first}
+use Rattle.text.proofs.Words.{piece-first, words-first}
 use Rattle.clauses.specs.Cnf.{Literal, is, isNot}
 use Rattle.clauses.specs.Dimacs.{blank}
 use Rattle.clauses.proofs.Items.{literalWord, word-nonempty, word-no-blank}

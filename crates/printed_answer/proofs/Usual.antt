@@ -8,9 +8,9 @@ use native.Mathlib.Decide.{ℕ-discrete}
 use native.Mathlib.Nat.{le-trans}
 use native.Mathlib.Omega.{arith}
 use lib.ListN.{length, length-append}
-use Rattle.reply.specs.Decimal.{decimal}
-use Rattle.reply.specs.Text.{ascii}
-use Rattle.reply.proofs.Decimal.{decimal-length}
+use Rattle.text.specs.Decimal.{decimal}
+use Rattle.text.specs.Text.{ascii}
+use Rattle.text.proofs.Decimal.{decimal-length}
 use Rattle.reply.proofs.Every.{Every, every-member}
 use Rattle.term.specs.Tables.{rankBits}
 use Rattle.book.specs.Book.{Book, symbols}

@@ -3,9 +3,9 @@ use Prim.Native.Nat.{ℕ, _<_}
 use mathlib.Core.List.{List, _++_, map, flatMap}
 use mathlib.Core.Path.{sym, subst}
 use native.Mathlib.Omega.{arith}
-use Rattle.reply.specs.Decimal.{decimal}
-use Rattle.reply.specs.Text.{ascii}
-use Rattle.reply.proofs.Decimal.{Digit, decimal-digits}
+use Rattle.text.specs.Decimal.{decimal}
+use Rattle.text.specs.Text.{ascii}
+use Rattle.text.proofs.Decimal.{Digit, decimal-digits}
 use Rattle.reply.proofs.Every.{Every, every-append, every-implied, every-flatMap, every-of-members}
 use Rattle.clauses.specs.Cnf.{Literal, is, isNot, Assignment}
 use Rattle.clauses.specs.Numbering.{numbers}

@@ -6,8 +6,8 @@ use mathlib.Core.List.{List, [], _∷_, _++_, map, flatMap, List·Memᴰ}
 use mathlib.Core.Logic.{_≢_}
 use mathlib.Core.Path.{_≡_}
 use lib.Dec.{eqb}
-use Rattle.reply.specs.Decimal.{decimal}
-use Rattle.reply.specs.Text.{ascii}
+use Rattle.text.specs.Decimal.{decimal}
+use Rattle.text.specs.Text.{ascii}
 use Rattle.clauses.specs.Cnf.{Literal, is, isNot, Assignment, holds}
 use Rattle.answer.specs.Values.{variableOf}
 

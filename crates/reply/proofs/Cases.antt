@@ -4,22 +4,12 @@ use mathlib.Core.Path.{_≡_, refl}
 use mathlib.Core.List.{List, [], _∷_}
 use Rattle.reply.specs.Reply.{Reply, Attempt, given, refused, unless, _>>_, _>>=_, _at_}
 use Rattle.reply.specs.Lent.{laid}
-use Rattle.reply.specs.Decimal.{decimal}
-use Rattle.reply.specs.Text.{ascii, refusedLine}
 use Rattle.reply.specs.Computing.{computing}
 use mathlib.Core.Bool.{true, false}
 
 first-refusal-counts : (do unless true (7 at 0); unless false (8 at 2); unless false (9 at 0)) ≡ refused (8 at 2)
 unfolding computing
 first-refusal-counts = refl
-
-refusal-line : refusedLine (13 at 65535) ≡ ascii "refused 13 at 65535\n"
-unfolding computing
-refusal-line = refl
-
-zero-is-one-digit : decimal 0 ≡ 48 ∷ []
-unfolding computing
-zero-is-one-digit = refl
 
 later-bytes-stay : laid {Cell = ℕ} (given (1 ∷ 2 ∷ [])) (7 ∷ 7 ∷ 7 ∷ []) ≡ 1 ∷ 2 ∷ 7 ∷ []
 unfolding computing

@@ -4,5 +4,3 @@ pub mod Given
 pub mod Refusals
 pub mod Settled
 pub mod Every
-pub mod Decimal
-pub mod Words

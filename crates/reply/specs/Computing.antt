@@ -2,9 +2,7 @@
 use Rattle.reply.specs.Reply.{_>>=_, _>>_, unless, toldAs}
 use Rattle.reply.specs.Refusals.{numbered, rows, named}
 use Rattle.reply.specs.Lent.{laid, lengthOf}
-use Rattle.reply.specs.Decimal.{digits, decimal, valueOf, number}
-use Rattle.reply.specs.Text.{ascii, sameText, ontoFirst, pieces, space, newline, nonempty, words, refusedLine}
 
 unfoldable pub computing : Unit {0}
-unfolding _>>=_ _>>_ unless toldAs numbered rows named laid lengthOf ascii digits decimal valueOf number sameText ontoFirst pieces space newline nonempty words refusedLine
+unfolding _>>=_ _>>_ unless toldAs numbered rows named laid lengthOf
 computing = tt

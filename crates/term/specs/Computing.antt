@@ -1,5 +1,5 @@
 -- A key for computed cases: what opens it may compute with every definition of this crate and of those below.
-use Rattle.reply.specs.Computing
+use Rattle.text.specs.Computing
 use Rattle.term.specs.Tables.{kindOf, bodyLengths, bodyLength, rankBitsTable, rankBits}
 use Rattle.term.specs.Term.{size, count, listed, args, same, over, variableFree}
 use Rattle.term.specs.Root.{arguments}

@@ -14,7 +14,7 @@ use Rattle.book.specs.Limits.{WithinLimits}
 use Rattle.clauses.specs.File.{fileBlocks, blockOf}
 use Rattle.clauses.proofs.Bounds.{block-at-most}
 use Rattle.clauses.proofs.Elements.{element-member, element-within}
-use Rattle.clauses.proofs.Laid.{lays-length}
+use Rattle.text.proofs.Laying.{lays-length}
 use Rattle.clauses.proofs.RulesWalk.{read-limits}
 use Rattle.clause_file.proofs.Fitting.{Reached, nothing-yet, one-more, no-more, reached-within}
 use Rattle.clause_file.proofs.Answers.{Refuses, refuses, nothing-laid, TextAt, text-at, none-fits, few-blocks}

@@ -5,7 +5,7 @@ use mathlib.Core.Path.{_≡_, refl, _∙_}
 use native.Mathlib.Omega.{arith}
 use lib.ListN.{length, drop}
 use borrow.Author.Needs.{needs}
-use Rattle.reply.specs.Decimal.{number}
+use Rattle.text.specs.Decimal.{number}
 use Rattle.answer.specs.Items.{within}
 use Rattle.answer.proofs.Numbers.{behind, ended-at, stopped-at, gone-on-at}
 use Rattle.answer.proofs.items.number_within.Statement.{statement}

@@ -2,7 +2,7 @@
 -- Assumes nothing.
 use mathlib.Core.Path.{refl, sym, _∙_}
 use borrow.Author.Needs.{needs}
-use Rattle.reply.specs.Text.{ascii}
+use Rattle.text.specs.Text.{ascii}
 use Rattle.answer.specs.Lines.{lineAfter, verdictAfter}
 use Rattle.answer.proofs.Stages.{not-silent}
 use Rattle.answer.proofs.OneLine.{verdict-late, verdict-first}

@@ -3,7 +3,7 @@ use Prim.Native.Nat.{_-_}
 use mathlib.Core.Path.{_≡_, refl, sym, _∙_}
 use native.Mathlib.Omega.{arith}
 use lib.ListN.{length, drop}
-use Rattle.reply.specs.Text.{sameText}
+use Rattle.text.specs.Text.{sameText}
 use Rattle.answer.proofs.SameText.{longer-or-shorter, both-ended, same-further, differ-here}
 use Rattle.answer.proofs.text.same.Statement.{statement}
 use Rattle.answer.proofs.text.same.Tie as tie

@@ -1,10 +1,10 @@
 -- `blocks::write_counts` meets its contract. Assumes nothing.
 use borrow.Author.Needs.{needs}
 use mathlib.Core.List.{append-assoc}
-use Rattle.reply.specs.Text.{ascii}
+use Rattle.text.specs.Text.{ascii}
 use Rattle.clauses.specs.File.{literalBytes}
 use Rattle.clauses.specs.Read.{countsText}
-use Rattle.clauses.proofs.Laid.{lays-then, lays-as}
+use Rattle.text.proofs.Laying.{lays-then, lays-as}
 use Rattle.clauses.proofs.blocks.write_counts.Statement.{statement}
 use Rattle.clauses.proofs.blocks.write_counts.Tie as tie
 

@@ -3,10 +3,10 @@ use borrow.Author.Needs.{needs}
 use Prim.Native.Nat.{ℕ}
 use mathlib.Core.List.{_++_}
 use mathlib.Core.Path.{ap₂}
-use Rattle.reply.specs.Text.{ascii}
+use Rattle.text.specs.Text.{ascii}
 use Rattle.clauses.specs.File.{header}
 use Rattle.clauses.specs.Read.{countsText}
-use Rattle.clauses.proofs.Laid.{lays-then, lays-as}
+use Rattle.text.proofs.Laying.{lays-then, lays-as}
 use Rattle.clauses.proofs.blocks.write_header.Statement.{statement}
 use Rattle.clauses.proofs.blocks.write_header.Tie as tie
 

@@ -5,7 +5,7 @@ use mathlib.Core.Path.{ap}
 use native.Mathlib.Omega.{arith}
 use Rattle.clauses.specs.File.{clauseBytes}
 use Rattle.clauses.proofs.BlockNumbers.{some-others, pair-below, pair-above, pair-below-at, pair-above-at}
-use Rattle.clauses.proofs.Laid.{lays-as}
+use Rattle.text.proofs.Laying.{lays-as}
 use Rattle.clauses.proofs.RulesWalk.{rank-bits-few}
 use Rattle.clauses.proofs.blocks.write_pair.Statement.{statement}
 use Rattle.clauses.proofs.blocks.write_pair.Tie as tie

@@ -2,7 +2,7 @@
 use borrow.Author.Needs.{needs}
 use mathlib.Core.Path.{sym, _∙_}
 use Rattle.clauses.proofs.FileBlocks.{header-text, pair-text, no-text, pair-there, rule-there}
-use Rattle.clauses.proofs.Laid.{lays-as}
+use Rattle.text.proofs.Laying.{lays-as}
 use Rattle.clauses.proofs.RulesWalk.{read-few-symbols}
 use Rattle.clauses.proofs.blocks.write_place.Statement.{statement}
 use Rattle.clauses.proofs.blocks.write_place.Tie as tie

@@ -3,7 +3,7 @@ use borrow.Author.Needs.{needs}
 use mathlib.Core.Path.{sym, _∙_}
 use Rattle.clauses.specs.Meaning.{meant}
 use Rattle.clauses.specs.Nodes.{settingOf}
-use Rattle.clauses.proofs.Laid.{lays-as}
+use Rattle.text.proofs.Laying.{lays-as}
 use Rattle.clauses.proofs.NodesBlock.{identical-text, other-text}
 use Rattle.clauses.proofs.nodes.write_c_clauses.Statement.{statement}
 use Rattle.clauses.proofs.nodes.write_c_clauses.Tie as tie

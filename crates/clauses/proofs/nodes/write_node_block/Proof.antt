@@ -3,7 +3,7 @@ use borrow.Author.Needs.{needs}
 use native.Mathlib.Omega.{arith}
 use Rattle.clauses.specs.Nodes.{settingOf}
 use Rattle.clauses.proofs.Behind.{C-small}
-use Rattle.clauses.proofs.Laid.{lays-as, lays-then}
+use Rattle.text.proofs.Laying.{lays-as, lays-then}
 use Rattle.clauses.proofs.NodesBlock.{nodes-text}
 use Rattle.clauses.proofs.nodes.write_node_block.Statement.{statement}
 use Rattle.clauses.proofs.nodes.write_node_block.Tie as tie

@@ -1,7 +1,8 @@
 -- `pairs::write_each_two` meets its contract. Assumes nothing.
 use borrow.Author.Needs.{needs}
 use Rattle.clauses.specs.Pairs.{eachTwo}
-use Rattle.clauses.proofs.Laid.{lays-then, lays-as, clauses-text}
+use Rattle.text.proofs.Laying.{lays-then, lays-as}
+use Rattle.clauses.proofs.Laid.{clauses-text}
 use Rattle.clauses.proofs.pairs.write_each_two.Statement.{statement}
 use Rattle.clauses.proofs.pairs.write_each_two.Tie as tie
 

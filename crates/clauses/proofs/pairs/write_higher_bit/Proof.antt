@@ -4,7 +4,7 @@ use mathlib.Core.Path.{sym}
 use Rattle.clauses.specs.File.{clauseBytes}
 use Rattle.clauses.specs.Meaning.{meant}
 use Rattle.clauses.specs.Pairs.{higherBit}
-use Rattle.clauses.proofs.Laid.{lays-then, lays-as}
+use Rattle.text.proofs.Laying.{lays-then, lays-as}
 use Rattle.clauses.proofs.Lists.{flatMap-append}
 use Rattle.clauses.proofs.pairs.write_higher_bit.Statement.{statement}
 use Rattle.clauses.proofs.pairs.write_higher_bit.Tie as tie

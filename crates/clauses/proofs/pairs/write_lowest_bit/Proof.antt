@@ -2,7 +2,8 @@
 use borrow.Author.Needs.{needs}
 use Rattle.clauses.specs.Meaning.{meant}
 use Rattle.clauses.specs.Pairs.{lowestBit}
-use Rattle.clauses.proofs.Laid.{lays-then, lays-as, clauses-text}
+use Rattle.text.proofs.Laying.{lays-then, lays-as}
+use Rattle.clauses.proofs.Laid.{clauses-text}
 use Rattle.clauses.proofs.pairs.write_lowest_bit.Statement.{statement}
 use Rattle.clauses.proofs.pairs.write_lowest_bit.Tie as tie
 

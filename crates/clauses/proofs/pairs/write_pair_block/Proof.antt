@@ -9,8 +9,9 @@ use borrow.Author.Needs.{needs}
 use Rattle.clauses.specs.Numbering.{numbers}
 use Rattle.clauses.specs.Blocks.{pairClauses, pairBlock}
 use Rattle.clauses.specs.File.{clauseBytes}
-use Rattle.clauses.specs.Laying.{Lays}
-use Rattle.clauses.proofs.Laid.{lays-none, lays-next, lays-length, lays-as}
+use Rattle.text.specs.Laying.{Lays}
+use Rattle.text.proofs.Laying.{lays-length, lays-as}
+use Rattle.clauses.proofs.Laid.{lays-none, lays-next}
 use Rattle.clauses.proofs.Lists.{flatMap-flatMap, numbers-length, numbers-at}
 use Rattle.clauses.proofs.pairs.write_pair_block.Statement.{statement}
 use Rattle.clauses.proofs.pairs.write_pair_block.Tie as tie

@@ -3,7 +3,7 @@ use borrow.Author.Needs.{needs}
 use mathlib.Core.List.{flatMap}
 use mathlib.Core.Path.{ap}
 use Rattle.clauses.specs.File.{clauseBytes}
-use Rattle.clauses.proofs.Laid.{lays-as}
+use Rattle.text.proofs.Laying.{lays-as}
 use Rattle.clauses.proofs.PairNumbers.{lowest-clauses, higher-clauses}
 use Rattle.clauses.proofs.pairs.write_pair_clauses.Statement.{statement}
 use Rattle.clauses.proofs.pairs.write_pair_clauses.Tie as tie

@@ -2,7 +2,7 @@
 use borrow.Author.Needs.{needs}
 use Rattle.clauses.specs.Meaning.{meant, partsIn}
 use Rattle.clauses.proofs.BothWays.{all-parts-both, all-parts-none, some-taken}
-use Rattle.clauses.proofs.Laid.{lays-as}
+use Rattle.text.proofs.Laying.{lays-as}
 use Rattle.clauses.proofs.parts.write_all_parts.Statement.{statement}
 use Rattle.clauses.proofs.parts.write_all_parts.Tie as tie
 

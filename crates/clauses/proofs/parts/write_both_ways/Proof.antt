@@ -2,7 +2,7 @@
 use borrow.Author.Needs.{needs}
 use Rattle.clauses.specs.Meaning.{meant, partsIn}
 use Rattle.clauses.proofs.BothWays.{both-ways-text}
-use Rattle.clauses.proofs.Laid.{lays-then, lays-as}
+use Rattle.text.proofs.Laying.{lays-then, lays-as}
 use Rattle.clauses.proofs.parts.write_both_ways.Statement.{statement}
 use Rattle.clauses.proofs.parts.write_both_ways.Tie as tie
 

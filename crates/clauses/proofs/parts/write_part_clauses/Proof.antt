@@ -7,9 +7,10 @@ use mathlib.Core.Path.{_≡_, ap}
 use lib.ListN.{length, take}
 use Rattle.clauses.specs.Cnf.{Literal}
 use Rattle.clauses.specs.File.{clauseBytes}
-use Rattle.clauses.specs.Laying.{Lays}
+use Rattle.text.specs.Laying.{Lays}
 use Rattle.clauses.specs.Meaning.{meant, against, partsIn, partClauses}
-use Rattle.clauses.proofs.Laid.{lays-none, lays-next, lays-length, lays-as}
+use Rattle.text.proofs.Laying.{lays-length, lays-as}
+use Rattle.clauses.proofs.Laid.{lays-none, lays-next}
 use Rattle.clauses.proofs.Lists.{flatMap-map}
 use Rattle.clauses.proofs.parts.write_part_clauses.Statement.{statement}
 use Rattle.clauses.proofs.parts.write_part_clauses.Tie as tie

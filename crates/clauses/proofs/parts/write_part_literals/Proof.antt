@@ -7,9 +7,10 @@ use lib.ListN.{length, take}
 use borrow.Author.Needs.{needs}
 use Rattle.clauses.specs.Cnf.{Literal}
 use Rattle.clauses.specs.File.{literalBytes, clauseBytes}
-use Rattle.clauses.specs.Laying.{Lays}
+use Rattle.text.specs.Laying.{Lays}
 use Rattle.clauses.specs.Meaning.{meant, against, partsIn}
-use Rattle.clauses.proofs.Laid.{lays-none, lays-next, lays-length, lays-as, lays-then}
+use Rattle.text.proofs.Laying.{lays-length, lays-as, lays-then}
+use Rattle.clauses.proofs.Laid.{lays-none, lays-next}
 use Rattle.clauses.proofs.Lists.{flatMap-map}
 use Rattle.clauses.proofs.parts.write_part_literals.Statement.{statement}
 use Rattle.clauses.proofs.parts.write_part_literals.Tie as tie

@@ -6,7 +6,7 @@ use native.Mathlib.Omega.{arith}
 use Rattle.clauses.specs.Cnf.{is}
 use Rattle.clauses.specs.File.{clauseBytes}
 use Rattle.clauses.specs.Meaning.{meant}
-use Rattle.clauses.proofs.Laid.{lays-as}
+use Rattle.text.proofs.Laying.{lays-as}
 use Rattle.clauses.proofs.RuleNumbers.{width-positive, numbered-pair, numbered-block, zeroth-block, zeroth-text}
 use Rattle.clauses.proofs.rules.write_rule_block.Statement.{statement}
 use Rattle.clauses.proofs.rules.write_rule_block.Tie as tie

@@ -1,7 +1,7 @@
 -- `writing::write_clause_end` meets its contract. Assumes nothing.
 use borrow.Author.Needs.{needs}
-use Rattle.reply.specs.Text.{ascii}
-use Rattle.clauses.proofs.Laid.{lays-then}
+use Rattle.text.specs.Text.{ascii}
+use Rattle.text.proofs.Laying.{lays-then}
 use Rattle.clauses.proofs.writing.write_clause_end.Statement.{statement}
 use Rattle.clauses.proofs.writing.write_clause_end.Tie as tie
 

@@ -2,7 +2,8 @@
 use borrow.Author.Needs.{needs}
 use mathlib.Core.List.{flatMap}
 use Rattle.clauses.specs.File.{clauseBytes}
-use Rattle.clauses.proofs.Laid.{lays-then, clause-cons}
+use Rattle.text.proofs.Laying.{lays-then}
+use Rattle.clauses.proofs.Laid.{clause-cons}
 use Rattle.clauses.proofs.writing.write_clause_of_one.Statement.{statement}
 use Rattle.clauses.proofs.writing.write_clause_of_one.Tie as tie
 

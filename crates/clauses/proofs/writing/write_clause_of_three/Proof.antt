@@ -1,6 +1,7 @@
 -- `writing::write_clause_of_three` meets its contract. Assumes nothing.
 use borrow.Author.Needs.{needs}
-use Rattle.clauses.proofs.Laid.{lays-then, clause-cons}
+use Rattle.text.proofs.Laying.{lays-then}
+use Rattle.clauses.proofs.Laid.{clause-cons}
 use Rattle.clauses.proofs.writing.write_clause_of_three.Statement.{statement}
 use Rattle.clauses.proofs.writing.write_clause_of_three.Tie as tie
 

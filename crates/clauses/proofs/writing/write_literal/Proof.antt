@@ -1,9 +1,9 @@
 -- `writing::write_literal` meets its contract. Assumes nothing.
 use borrow.Author.Needs.{needs}
-use Rattle.reply.specs.Text.{ascii}
+use Rattle.text.specs.Text.{ascii}
 use Rattle.clauses.specs.File.{literalBytes}
 use Rattle.clauses.specs.Meaning.{meant}
-use Rattle.clauses.proofs.Laid.{lays-then}
+use Rattle.text.proofs.Laying.{lays-then}
 use Rattle.clauses.proofs.writing.write_literal.Statement.{statement}
 use Rattle.clauses.proofs.writing.write_literal.Tie as tie
 

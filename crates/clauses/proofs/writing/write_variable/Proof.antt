@@ -1,8 +1,8 @@
 -- `writing::write_variable` meets its contract. Assumes nothing.
 use borrow.Author.Needs.{needs}
-use Rattle.reply.specs.Text.{ascii}
+use Rattle.text.specs.Text.{ascii}
 use Rattle.clauses.specs.File.{literalBytes}
-use Rattle.clauses.proofs.Laid.{lays-then}
+use Rattle.text.proofs.Laying.{lays-then}
 use Rattle.clauses.proofs.writing.write_variable.Statement.{statement}
 use Rattle.clauses.proofs.writing.write_variable.Tie as tie
 

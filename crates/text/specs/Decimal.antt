@@ -23,3 +23,13 @@ unfoldable pub number : List ℕ → Option ℕ
 number [] = none
 number (d ∷ []) = valueOf 0 (d ∷ [])
 number (d ∷ e ∷ ds) = elim (eqb d 48) [ true ↦ none | false ↦ valueOf 0 (d ∷ e ∷ ds) ]
+
+-- The number, if there is one and it does not pass `top`.
+unfoldable pub notAbove : (top : ℕ) → Option ℕ → Option ℕ
+notAbove top none = none
+notAbove top (some v) = elim (leb v top) [ true ↦ some v | false ↦ none ]
+
+-- A number from 1 to `top`, else 0.
+unfoldable pub within : (top : ℕ) → Option ℕ → ℕ
+within top none = 0
+within top (some v) = elim (leb v top) [ true ↦ v | false ↦ 0 ]

@@ -7,7 +7,7 @@ use native.Mathlib.Nat.{mod-eq-of-lt}
 use native.Mathlib.Omega.{arith}
 use lib.Dec.{ltb}
 use borrow.Author.Tests.{lt-ltb, le-ltb, ltb-true, ltb-false}
-use Rattle.reply.specs.Decimal.{digits, decimal}
+use Rattle.text.specs.Decimal.{digits, decimal}
 
 -- Below ten there is one digit.
 digits-small : (fuel n : ℕ) → n < 10 → digits fuel n ≡ (48 + n) ∷ []

@@ -1,13 +1,13 @@
 -- Texts as bytes: ASCII, pieces and words of a text, and the line that tells a refusal.
-use Prim.Native.Nat.{ℕ}
+use Prim.Native.Nat.{ℕ, suc}
 use Prim.Native.String.{String}
 use Prim.Native.String as Words
 use Prim.Native.Char.{code}
 use mathlib.Core.Bool.{Bool, true, false, _&&_}
 use mathlib.Core.List.{List, [], _∷_, _++_}
 use lib.Dec.{eqb}
 use Rattle.reply.specs.Reply.{Refusal}
-use Rattle.reply.specs.Decimal.{decimal}
+use Rattle.text.specs.Decimal.{decimal}
 
 -- The bytes of a word in ASCII.
 unfoldable pub ascii : String → List ℕ
@@ -29,6 +29,11 @@ ontoFirst b (piece ∷ pieces) = (b ∷ piece) ∷ pieces
 unfoldable pub pieces : (ends : ℕ → Bool) → List ℕ → List (List ℕ)
 pieces ends [] = []
 pieces ends (b ∷ bs) = elim (ends b) [ true ↦ [] ∷ pieces ends bs | false ↦ ontoFirst b (pieces ends bs) ]
+
+-- How many bytes stand before the first one that passes the test `ends`; where none does, all of them.
+unfoldable pub upTo : (ends : ℕ → Bool) → List ℕ → ℕ
+upTo ends [] = 0
+upTo ends (b ∷ bs) = elim (ends b) [ true ↦ 0 | false ↦ suc (upTo ends bs) ]
 
 unfoldable pub space : ℕ → Bool
 space b = eqb b 32

@@ -1,8 +1,8 @@
 -- `writing::write_byte` meets its contract. Assumes nothing.
 use borrow.Author.Needs.{needs}
-use Rattle.clauses.proofs.Laid.{lays-byte}
-use Rattle.clauses.proofs.writing.write_byte.Statement.{statement}
-use Rattle.clauses.proofs.writing.write_byte.Tie as tie
+use Rattle.text.proofs.Laying.{lays-byte}
+use Rattle.text.proofs.writing.write_byte.Statement.{statement}
+use Rattle.text.proofs.writing.write_byte.Tie as tie
 
 slice-write-out : tie.Need-slice-write-out
 slice-write-out c = search needs

@@ -4,14 +4,14 @@ use Prim.Native.Nat.{ℕ, _<_}
 use borrow.Fn.Kinds.{In}
 use borrow.Fn.PlainCycle.{Measures, is, falls, and}
 use borrow.Author.Needs.{needs}
-use Rattle.clauses.proofs.LastDigit.{decimal-digit, decimal-last}
-use Rattle.clauses.proofs.Laid.{lays-then}
-use Rattle.clauses.proofs.writing.write_decimal.Reads as write-decimal
-use Rattle.clauses.proofs.writing.write_decimal.Kinds as write-decimal-kinds
-use Rattle.clauses.proofs.writing.+write_decimal.Lts-write_decimal as write-decimal-lts
-use Rattle.clauses.proofs.writing.write_digit.Reads as write-digit-reads
-use Rattle.clauses.proofs.writing.+write_decimal.{statement}
-use Rattle.clauses.proofs.writing.+write_decimal.Tie.{close}
+use Rattle.text.proofs.LastDigit.{decimal-digit, decimal-last}
+use Rattle.text.proofs.Laying.{lays-then}
+use Rattle.text.proofs.writing.write_decimal.Reads as write-decimal
+use Rattle.text.proofs.writing.write_decimal.Kinds as write-decimal-kinds
+use Rattle.text.proofs.writing.+write_decimal.Lts-write_decimal as write-decimal-lts
+use Rattle.text.proofs.writing.write_digit.Reads as write-digit-reads
+use Rattle.text.proofs.writing.+write_decimal.{statement}
+use Rattle.text.proofs.writing.+write_decimal.Tie.{close}
 
 abbrev μ-write-decimal : Measures 1 write-decimal-kinds.ps ℕ
 μ-write-decimal κs a = a .0

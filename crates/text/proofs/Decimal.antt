@@ -11,11 +11,11 @@ use native.Mathlib.Nat.{pow-suc, pow-zero, mod-eq-of-lt, mod-lt}
 use native.Mathlib.Omega.{arith}
 use lib.Dec.{T, leb, ltb, eqb, le→leb, ltb→lt, nltb→le, eqb→eq}
 use lib.ListN.{length, length-append}
-use Rattle.reply.specs.Decimal.{digits, decimal, valueOf, number}
-use Rattle.reply.specs.Text.{ascii}
-use Rattle.reply.specs.Computing.{computing}
+use Rattle.text.specs.Decimal.{digits, decimal, valueOf, number}
+use Rattle.text.specs.Text.{ascii}
+use Rattle.text.specs.Computing.{computing}
 use Rattle.reply.proofs.Tests.{passed, failed, is-true, is-false}
 use Rattle.reply.proofs.Every.{Every, every-append}
 
 -- A byte from "0" to "9".
 pub record Digit (b : ℕ) : Type 0 where

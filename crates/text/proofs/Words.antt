@@ -6,9 +6,9 @@ use mathlib.Core.List.{List, [], _∷_, _++_}
 use mathlib.Core.Logic.{_≢_}
 use mathlib.Core.Path.{_≡_, refl, ap, ap₂}
 use lib.Dec.{T, eqb, eqb→eq}
-use Rattle.reply.specs.Text.{sameText, ontoFirst, pieces, nonempty, words}
+use Rattle.text.specs.Text.{sameText, ontoFirst, pieces, nonempty, words}
 use Rattle.reply.proofs.Tests.{passed}
 use Rattle.reply.proofs.Every.{Every}
 
 pub same-text : (l m : List ℕ) → T (sameText l m) → l ≡ m
 unfolding sameText
