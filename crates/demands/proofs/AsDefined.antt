@@ -17,7 +17,7 @@ module _ {A : Type 0} where
   itself (given a) = refl
   itself (refused r) = refl
 
-  nothing-written : (reply : Reply A) → [] ≡ laid (_>>=_ reply (λ a. given [])) []
+  nothing-written : (reply : Reply A) → _≡_ {A = Bytes} [] (laid (_>>=_ reply (λ a. given [])) [])
   unfolding _>>=_ laid
   nothing-written (given a) = refl
   nothing-written (refused r) = refl

@@ -16,7 +16,6 @@
 mod input;
 mod replies;
 mod show;
-mod slices;
 mod terms;
 
 use input::Header;

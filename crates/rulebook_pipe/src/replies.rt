@@ -1,6 +1,5 @@
 // A reply for each call: the library's own, as lines of text.
 use crate::show;
-use crate::slices;
 use crate::terms;
 use answer::Answered;
 use book::Book;
@@ -69,7 +68,6 @@ fn show_outcome(ended: Outcome) {
 fn run(book: &[u8], ranks: &[u8], record: &[u8], budget: u64) {
     let mut out = [0u8; 513];
     let ran = slices::run(book, ranks, record, budget, &mut out);
-    slices::told();
     match ran {
         RunReply::RanTo {
             outcome: ended,

@@ -8,13 +8,13 @@ ghost use lib.ListN.{length, take};
 ghost use Rattle.reply.specs.Reply.{given};
 ghost use Rattle.rewriting.specs.Run.{run};
 ghost use Rattle.rewriting.specs.RunMeaning.{Told, runMeaning};
-ghost use Rattle.rulebook_pipe.specs.Sliced.{OneRun, laterOn, toldLater, goingOf};
+ghost use Rattle.slices.specs.Sliced.{OneRun, laterOn, toldLater, goingOf};
 
 // The steps of a slice.
 const SLICE: u64 = 10000;
 
 // A run that goes on, after so many steps and with a record of so many bytes; or one that has ended.
-pub enum Going {
+enum Going {
     On { steps: u64, size: usize },
     Ended,
 }
@@ -101,7 +101,7 @@ fn tell(steps: u64, size: usize) {
 }
 
 // Clears the line that told it last.
-pub fn told() {
+fn clear() {
     if libc::isatty(STDERR_FILENO) == 1 {
         io::write_all(
             STDERR_FILENO,
@@ -110,8 +110,8 @@ pub fn told() {
     }
 }
 
-// The run of a record; the buffer then starts with the record of the term that it reached.
-pub fn run(book: &[u8], ranks: &[u8], record: &[u8], budget: u64, out: &mut [u8]) -> RunReply
+// The slices one after the other, until the budget is used up or the run has ended.
+fn slice_by_slice(book: &[u8], ranks: &[u8], record: &[u8], budget: u64, out: &mut [u8]) -> RunReply
     requires { ⌜ length (now out) ≡ 513 ⌝ }
     ensures { λ r. ⌜ OneRun (run (now (book .entry)) (now (ranks .entry)) (now («record» .entry)) budget 513) r (now (out .exit)) ⌝ }
 {
@@ -129,5 +129,15 @@ pub fn run(book: &[u8], ranks: &[u8], record: &[u8], budget: u64, out: &mut [u8]
         reply = carry_on(book, ranks, steps, size, slice, out);
         left -= slice;
     }
+    reply
+}
+
+// The run of a record; the buffer then starts with the record of the term that it reached.
+pub fn run(book: &[u8], ranks: &[u8], record: &[u8], budget: u64, out: &mut [u8]) -> RunReply
+    requires { ⌜ length (now out) ≡ 513 ⌝ }
+    ensures { λ r. ⌜ OneRun (run (now (book .entry)) (now (ranks .entry)) (now («record» .entry)) budget 513) r (now (out .exit)) ⌝ }
+{
+    let reply = slice_by_slice(book, ranks, record, budget, out);
+    clear();
     reply
 }

@@ -10,10 +10,10 @@ use Rattle.reply.specs.Reply.{Reply}
 use Rattle.rewriting.specs.Run.{Ran, run}
 use Rattle.rewriting.specs.RunMeaning.{RunsTo}
 use Rattle.rewriting.specs.declared.running.RunReply.{RunReply}
-use Rattle.rulebook_pipe.specs.Sliced.{OneRun}
-use Rattle.rulebook_pipe.proofs.AddUp.{one-run, ended-run, SpentRun, spent-run, made-within, size-within, carried-on}
-use Rattle.rulebook_pipe.proofs.slices.run.Statement.{statement}
-use Rattle.rulebook_pipe.proofs.slices.run.Tie as tie
+use Rattle.slices.specs.Sliced.{OneRun}
+use Rattle.slices.proofs.AddUp.{one-run, ended-run, SpentRun, spent-run, made-within, size-within, carried-on}
+use Rattle.slices.proofs.slice_by_slice.Statement.{statement}
+use Rattle.slices.proofs.slice_by_slice.Tie as tie
 
 abbrev Inv-loop : tie.InvT-loop
 Inv-loop book ranks «record» budget out₀ reply₀ left₀ out reply left =
@@ -125,8 +125,8 @@ returns-2 c =
     let start = head .before .before .before .before .before .before .before .before .before in
     with-budget _ _ _ _ (start .args .budget) (omega arith) (head .loop .inv .2)
 
-pub run-spec : {M : Type 1} → statement M
-run-spec =
+pub slice-by-slice-spec : {M : Type 1} → statement M
+slice-by-slice-spec =
     tie.close
     (tie.spec
     Inv-loop

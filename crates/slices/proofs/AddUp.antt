@@ -35,8 +35,8 @@ use Rattle.rewriting.proofs.RanOn.{refusalIn, unread-refused}
 use Rattle.demands.specs.BudgetsAdd.{counting, carriedOn, BudgetsAdd}
 use Rattle.demands.proofs.BudgetsAdd.{run-budgets-add}
 use Rattle.demands.proofs.Demand3.{Accepted, accepted}
-use Rattle.rulebook_pipe.specs.Sliced.{OneRun, laterOn, toldLater, goingOf}
-use Rattle.rulebook_pipe.specs.declared.slices.Going.the-variants.{On, Ended}
+use Rattle.slices.specs.Sliced.{OneRun, laterOn, toldLater, goingOf}
+use Rattle.slices.specs.declared.Going.the-variants.{On, Ended}
 
 abbrev Bytes : Type 0
 Bytes = List ℕ

@@ -11,8 +11,8 @@ use Rattle.rewriting.specs.declared.running.RunReply.{RunReply}
 use Rattle.rewriting.specs.declared.running.RunReply.the-variants.{RanTo, Unreadable, WrongCount, NotDecreasing, Malformed, ShortBuffer}
 use Rattle.rewriting.specs.declared.stepping.Outcome.the-variants.{Done, Spent, TooLarge}
 use Rattle.demands.specs.BudgetsAdd.{counting}
-use Rattle.rulebook_pipe.specs.declared.slices.Going.{Going}
-use Rattle.rulebook_pipe.specs.declared.slices.Going.the-variants.{On, Ended}
+use Rattle.slices.specs.declared.Going.{Going}
+use Rattle.slices.specs.declared.Going.the-variants.{On, Ended}
 
 -- The answer is this run's, and the buffer starts with the record of the term that it reached.
 pub record OneRun (reply : Reply Ran) (answer : RunReply) (buffer : List ℕ) : Type 0 where

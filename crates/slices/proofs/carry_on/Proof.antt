@@ -12,9 +12,9 @@ use Rattle.term.specs.Copied.{copied, overlaid}
 use Rattle.term.proofs.Copied.{copied-whole}
 use Rattle.rewriting.specs.Run.{Ran, run}
 use Rattle.rewriting.specs.RunMeaning.{RunsTo}
-use Rattle.rulebook_pipe.proofs.AddUp.{told-within, later-run}
-use Rattle.rulebook_pipe.proofs.slices.carry_on.Statement.{statement}
-use Rattle.rulebook_pipe.proofs.slices.carry_on.Tie as tie
+use Rattle.slices.proofs.AddUp.{told-within, later-run}
+use Rattle.slices.proofs.carry_on.Statement.{statement}
+use Rattle.slices.proofs.carry_on.Tie as tie
 
 -- What was copied lies at the start of the record's own buffer.
 laid-within : {n : ℕ} {after : List ℕ} (text before : List ℕ) → n ≡ length text → after ≡ overlaid text before → n ≤ length after

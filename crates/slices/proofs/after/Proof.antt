@@ -4,10 +4,10 @@ use borrow.Author.Needs.{needs}
 use Rattle.reply.specs.Reply.{_>>=_}
 use Rattle.rewriting.specs.RunMeaning.{runMeaning}
 use Rattle.rewriting.specs.declared.running.RunReply.{RunReply}
-use Rattle.rulebook_pipe.specs.Sliced.{toldLater}
-use Rattle.rulebook_pipe.proofs.AddUp.{refused-later}
-use Rattle.rulebook_pipe.proofs.slices.after.Statement.{statement}
-use Rattle.rulebook_pipe.proofs.slices.after.Tie as tie
+use Rattle.slices.specs.Sliced.{toldLater}
+use Rattle.slices.proofs.AddUp.{refused-later}
+use Rattle.slices.proofs.after.Statement.{statement}
+use Rattle.slices.proofs.after.Tie as tie
 
 enum-known-reply : tie.Need-enum-known-reply
 enum-known-reply c = search needs

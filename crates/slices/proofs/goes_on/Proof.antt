@@ -3,10 +3,10 @@ use mathlib.Core.Path.{sym, ap, _∙_}
 use borrow.Author.Needs.{needs}
 use Rattle.rewriting.specs.declared.stepping.Outcome.{Outcome}
 use Rattle.rewriting.specs.declared.running.RunReply.the-variants.{RanTo}
-use Rattle.rulebook_pipe.specs.Sliced.{goingOf}
-use Rattle.rulebook_pipe.proofs.AddUp.{refused-ends}
-use Rattle.rulebook_pipe.proofs.slices.goes_on.Statement.{statement}
-use Rattle.rulebook_pipe.proofs.slices.goes_on.Tie as tie
+use Rattle.slices.specs.Sliced.{goingOf}
+use Rattle.slices.proofs.AddUp.{refused-ends}
+use Rattle.slices.proofs.goes_on.Statement.{statement}
+use Rattle.slices.proofs.goes_on.Tie as tie
 
 enum-known-reply : tie.Need-enum-known-reply
 enum-known-reply c = search needs

@@ -1,0 +1,43 @@
+// The lines by which the programs tell replies. Each function lays its text onto the start of the buffer that is lent to it, as far as it
+// fits, and answers how many bytes it laid; a program writes those and nothing else.
+use reply::Refusal;
+use text::writing::write_byte;
+use text::writing::write_decimal;
+use text::writing::write_text;
+ghost use Rattle.reply.specs.Refusals.{numbered};
+ghost use Rattle.text.specs.Laying.{Lays};
+ghost use Rattle.text.specs.Text.{refusedLine};
+ghost use Rattle.reply_lines.specs.Lines.{counted, countedLine, refusalText};
+
+// A word and a number behind it.
+pub fn write_counted(word: &[u8], n: usize, out: &mut [u8]) -> usize
+    ensures { λ r. ⌜ Lays (counted (now (word .entry)) n) (now (out .entry)) r (now (out .exit)) ⌝ }
+{
+    let at = write_text(word, out);
+    at + write_decimal(n, &mut out[at..])
+}
+
+// The same as a line.
+pub fn write_line(word: &[u8], n: usize, out: &mut [u8]) -> usize
+    ensures { λ r. ⌜ Lays (countedLine (now (word .entry)) n) (now (out .entry)) r (now (out .exit)) ⌝ }
+{
+    let at = write_counted(word, n, out);
+    at + write_byte(b'\n', &mut out[at..])
+}
+
+// A refusal, `refused N at P`.
+pub fn write_refusal(refusal: Refusal, out: &mut [u8]) -> usize
+    ensures { λ r. ⌜ Lays (refusalText (numbered refusal)) (now (out .entry)) r (now (out .exit)) ⌝ }
+{
+    let told = reply::numbered(refusal);
+    let at = write_counted(b"refused ", told.number as usize, out);
+    at + write_counted(b" at ", told.place, &mut out[at..])
+}
+
+// A refusal's line.
+pub fn write_refused(refusal: Refusal, out: &mut [u8]) -> usize
+    ensures { λ r. ⌜ Lays (refusedLine (numbered refusal)) (now (out .entry)) r (now (out .exit)) ⌝ }
+{
+    let at = write_refusal(refusal, out);
+    at + write_byte(b'\n', &mut out[at..])
+}
