@@ -9,9 +9,9 @@ use Rattle.term.specs.Prefix.{recordBytes}
 use Rattle.book.specs.Record.{readRecord}
 use Rattle.book.proofs.Limits.{read-within-limits}
 use Rattle.book.proofs.ReadRecord.{record-read}
-use Rattle.order.specs.Clearing.{Clears, Decreases}
 use Rattle.order.proofs.Checked.{ranks-clear-exactly}
 use Rattle.order.proofs.PathOrder.{ranks-order}
+use Rattle.order.proofs.Among.{rules-go-down}
 use Rattle.rewriting.specs.Run.{Outcome, done, spent, tooLarge, Ran, runFrom, ranOn, run}
 use Rattle.book.proofs.RecordBack.{record-back}
 use Rattle.rewriting.proofs.Run.{after, budgets-add}
@@ -33,13 +33,13 @@ had-room bytes ranks record′ budget room ran e =
 module _ (bytes ranks record′ : Bytes) (budget : ℕ) (ran : Ran) (its : Accepted bytes ranks record′ budget ran) where
   -- The record of the term that a run reached is read back to that term.
   reached-back : readRecord (its .book) (recordBytes (ran .reached)) ≡ given (ran .reached)
-  unfolding Clears Decreases
   reached-back =
       let limits = read-within-limits bytes (its .book) (its .readable) in
       let start = record-read (its .book) record′ (its .term) (its .recorded) in
       let stays : Recordable (its .book .arities) (runFrom (its .book .rules) budget 0 (its .term) .reached) =
-      run-recordable (ranks-order ranks) (its .book .arities) (its .book .rules) (ranks-clear-exactly (its .book) ranks .0 (its .cleared) .1)
-      (λ rule m. limits .right rule m .overSymbols) budget 0 (its .term) (record { overSymbols = start .0; ground = start .1; few = start .2 })
+      run-recordable (ranks-order (its .book .arities) ranks) (its .book .rules)
+      (rules-go-down limits (ranks-clear-exactly (its .book) ranks .0 (its .cleared) .1))
+      budget 0 (its .term) (record { overSymbols = start .0; ground = start .1; few = start .2 })
       in
       let there : Recordable (its .book .arities) (ran .reached) = subst (λ (r : Ran). Recordable (its .book .arities) (r .reached)) (its .runs) stays in
       record-back (its .book) (ran .reached) (there .overSymbols) (there .ground) (there .few)

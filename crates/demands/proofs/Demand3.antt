@@ -4,21 +4,24 @@ use Prim.Native.Nat.{ℕ, _≤_, _<_}
 use mathlib.Core.List.{List, List·Memᴰ}
 use mathlib.Core.Logic.{_⊎_, inl, inr}
 use mathlib.Core.Path.{_≡_, refl, sym, ap, ap₂, _∙_}
+use lib.Dec.{T}
 use lib.ListN.{length}
 use Rattle.reply.specs.Reply.{Reply, given, refused}
-use Rattle.term.specs.Term.{Term}
+use Rattle.term.specs.Term.{Term, over}
 use Rattle.reply.proofs.Given.{refused-not-given, bind-given, given-bind, then-given}
-use Rattle.book.specs.Book.{Book, Rule, symbols}
+use Rattle.book.specs.Book.{Book, symbols}
 use Rattle.book.specs.Reading.{readBook}
 use Rattle.book.specs.Record.{readRecord}
 use Rattle.book.specs.Limits.{WithinLimits}
 use Rattle.book.proofs.Limits.{read-within-limits}
+use Rattle.book.proofs.ReadRecord.{record-read}
 use Rattle.order.specs.Precedence.{StrictPrecedence, Above}
-use Rattle.order.specs.Clearing.{Clears, Decreases, ranksClear}
+use Rattle.order.specs.Clearing.{Clears, ranksClear}
 use Rattle.order.proofs.Checked.{ranks-clear-exactly, check-of-read}
 use Rattle.order.proofs.Grows.{over→declared}
 use Rattle.order.proofs.RanksOfPrecedence.{ranks-of-precedence}
 use Rattle.order.proofs.PathOrder.{ranks-order}
+use Rattle.order.proofs.Among.{rules-go-down}
 use Rattle.rewriting.specs.Step.{Steps}
 use Rattle.rewriting.specs.Run.{Outcome, done, spent, tooLarge, Ran, runFrom, ranOn, run}
 use Rattle.rewriting.proofs.Bound.{bounded}
@@ -28,10 +31,12 @@ use Rattle.demands.specs.EntryPoints.{Bytes}
 use Rattle.demands.specs.Demand2.{SomePrecedenceClears}
 use Rattle.demands.specs.Demand3.{Bounded, ComesToRest, NeverSpent, DoneOrTooLarge, Demand3}
 
--- Ranks that clear bound every sequence of steps, from any term.
-pub ranks-bound : (ranks : List ℕ) (rules : List Rule) → Clears (Above ranks) rules → (t : Term) → Bounded rules t
-unfolding Bounded Clears Decreases
-ranks-bound ranks rules clears t = bounded (ranks-order ranks) rules clears t
+-- Ranks that clear a book bound every sequence of steps, from any term over its symbols.
+pub ranks-bound :
+    (book : Book) → WithinLimits book → (ranks : List ℕ) → Clears (Above ranks) (book .rules) →
+    (t : Term) → T (over (book .arities) t) → Bounded (book .rules) t
+unfolding Bounded
+ranks-bound book limits ranks clears = bounded (ranks-order (book .arities) ranks) (book .rules) (rules-go-down limits clears)
 
 -- Ranks below n that clear a book that some strict precedence clears.
 pub clearing-ranks :
@@ -46,8 +51,9 @@ clearing-ranks book limits p =
 pub comes-to-rest : ComesToRest
 unfolding ComesToRest
 comes-to-rest bytes book read p t over free =
-    let found = clearing-ranks book (read-within-limits bytes book read) p in
-    ranks-bound (found .0) (book .rules) (found .3) t
+    let limits = read-within-limits bytes book read in
+    let found = clearing-ranks book limits p in
+    ranks-bound book limits (found .0) (found .3) t over
 
 -- What a run that is not refused found: the book, ranks that clear it, and the record, of which it is the run.
 pub record Accepted (bytes ranks record′ : Bytes) (budget : ℕ) (ran : Ran) : Type 0 where
@@ -86,7 +92,7 @@ module _ (bytes ranks record′ : Bytes) where
       let same : a .book ≡ book = cc (a .readable) in
       refused-not-given r (a .term) (sym e ∙ ap (λ b. readRecord b record′) (sym same) ∙ a .recorded))
   by-record book readable clears (given t) e =
-      let bound = ranks-bound ranks (book .rules) clears t in (
+      let bound = ranks-bound book (read-within-limits bytes book readable) ranks clears t (record-read book record′ t e .0) in (
         bound .0,
         λ budget room ran enough q s.
             let a = accepted bytes ranks record′ budget room ran q in
@@ -132,7 +138,8 @@ pub run-done-or-too-large : DoneOrTooLarge
 unfolding DoneOrTooLarge Bounded
 run-done-or-too-large bytes ranks record′ book t readable accepted recorded =
     let cleared : ranksClear book ranks ≡ given tt = sym (check-of-read bytes book ranks readable) ∙ accepted in
-    let bound = ranks-bound ranks (book .rules) (ranks-clear-exactly book ranks .0 cleared .1) t in (
+    let clears = ranks-clear-exactly book ranks .0 cleared .1 in
+    let bound = ranks-bound book (read-within-limits bytes book readable) ranks clears t (record-read book record′ t recorded .0) in (
       bound .0,
       λ budget room enough roomy. (
         runFrom (book .rules) budget 0 t,

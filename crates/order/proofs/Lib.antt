@@ -6,6 +6,7 @@ pub mod RanksOfPrecedence
 pub mod Kept
 pub mod Ends
 pub mod PathOrder
+pub mod Among
 pub mod Stepwise
 pub mod Places
 pub mod Standing

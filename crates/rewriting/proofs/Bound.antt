@@ -1,35 +1,58 @@
--- The bound N, from any reduction order under which the rules decrease. Every free step goes down in the order. From one term there are
--- finitely many steps: for each place and each rule at most one, since the match settles the left side's variables and the right side
--- brings no new one. So the bounds after each step have one for all, and one more bounds the term; the order ends, so this ends.
--- Assumes nothing.
+-- The bound N, from any reduction order under which the rules decrease, for terms over the arities. Every free step stays among those and
+-- goes down in the order. From one term there are finitely many steps: for each place and each rule at most one, since the match settles
+-- the left side's variables and the right side brings no new one. So the bounds after each step have one for all, and one more bounds the
+-- term; the order ends, so this ends. Assumes nothing.
 use Prim.Native.Nat.{ℕ, zero, suc, _≤_, zero-le, suc-le-suc}
 use native.Mathlib.Nat.{le-trans}
 use mathlib.Core.Bool.{Bool, true, false}
 use mathlib.Core.List.{List, [], _∷_, List·Memᴰ, List·Memᴰ·head, List·Memᴰ·tail, List·Memᴰ·not-nil, List·Memᴰ·cases-cons}
 use mathlib.Core.Logic.{_⊎_, inl, inr}
-use mathlib.Core.Path.{_≡_, refl, subst, subst₂, _∙_}
+use mathlib.Core.Path.{_≡_, refl, sym, subst, subst₂, _∙_}
 use lib.Dec.{T}
-use Rattle.term.specs.Term.{Term, Args, var, app, nil, cons}
+use Rattle.reply.proofs.Tests.{and-left, and-right}
+use Rattle.term.specs.Term.{Term, Args, var, app, nil, cons, over, overs}
 use Rattle.term.specs.Replacement.{Replacement, replace, Occurs}
 use Rattle.book.specs.Book.{Rule}
-use Rattle.order.specs.ReductionOrder.{Ends, ends, AtOneArgument, ReductionOrder}
+use Rattle.order.specs.ReductionOrder.{Ends, ends, AtOneArgument, Among, ReductionOrder}
 use Rattle.rewriting.specs.Fits.{Fits, matching, fits}
 use Rattle.rewriting.specs.Step.{Step, StepInside, atRoot, inside, inFirst, inLater, Steps, step}
 use Rattle.rewriting.proofs.Finitely.{Grows, Finitely, finitely-none, finitely-one, finitely-either, Image, finitely-image}
 use Rattle.rewriting.proofs.Fits.{matching-fits, matching-agrees, replace-agrees, fits-decides}
+use Rattle.rewriting.proofs.StaysOver.{Root, over-variable, Good, step-over}
 
--- Every free step goes down.
+-- A rule that goes down among the terms over the arities brings no new variable, and its right side is over them.
+pub downward-good :
+    {arities : List ℕ} {_≻_ : Term → Term → Type 0} → ReductionOrder arities _≻_ → (rule : Rule) → Among arities _≻_ (rule .left) (rule .right) → Good arities rule
+downward-good order rule down =
+    record { right-over = down .right-over; no-new = order .noNewVariable (rule .left) (rule .right) (down .above) }
+
+-- Every free step from a term over the arities goes down among those.
 module _
-    {_≻_ : Term → Term → Type 0} (order : ReductionOrder _≻_) {rules : List Rule}
-    (decrease : (rule : Rule) → List·Memᴰ rule rules → _≻_ (rule .left) (rule .right)) where
-  mutual
-    pub step-goes-down : {s t : Term} → Step rules s t → _≻_ s t
-    step-goes-down (atRoot rule σ m p q) = subst₂ _≻_ p q (order .keptUnderReplacement σ (rule .left) (rule .right) (decrease rule m))
-    step-goes-down (inside {f = f} {ss = ss} {ts = ts} st) = order .keptInContexts f ss ts (step-goes-down-inside st)
+    {arities : List ℕ} {_≻_ : Term → Term → Type 0} (order : ReductionOrder arities _≻_) {rules : List Rule}
+    (decrease : (rule : Rule) → List·Memᴰ rule rules → Among arities _≻_ (rule .left) (rule .right)) where
+  pub step-stays-over : {s t : Term} → Step rules s t → T (over arities s) → T (over arities t)
+  step-stays-over = step-over arities (λ rule m. downward-good order rule (decrease rule m))
 
-    step-goes-down-inside : {ss ts : Args} → StepInside rules ss ts → AtOneArgument _≻_ ss ts
-    step-goes-down-inside (inFirst st) = AtOneArgument.inFirst (step-goes-down st)
-    step-goes-down-inside (inLater st) = AtOneArgument.inLater (step-goes-down-inside st)
+  mutual
+    unfolding over
+
+    step-goes-down : {s t : Term} → Step rules s t → T (over arities s) → _≻_ s t
+    step-goes-down (atRoot rule σ m p q) o =
+        subst₂ _≻_ p q
+        (order .keptUnderReplacement σ (rule .left) (rule .right) (decrease rule m)
+        (λ x i. over-variable arities σ i (subst (λ (u : Term). T (over arities u)) (sym p) o)))
+    step-goes-down (inside {f = f} {ss = ss} {ts = ts} st) o =
+        order .keptInContexts f ss ts o (step-stays-over (inside st) o)
+        (step-goes-down-inside st (and-right (Root arities f ss) (overs arities ss) o))
+
+    step-goes-down-inside : {ss ts : Args} → StepInside rules ss ts → T (overs arities ss) → AtOneArgument _≻_ ss ts
+    step-goes-down-inside (inFirst {s = s} {ss = ss} st) o =
+        AtOneArgument.inFirst (step-goes-down st (and-left (over arities s) (overs arities ss) o))
+    step-goes-down-inside (inLater {s = s} {ss = ss} st) o =
+        AtOneArgument.inLater (step-goes-down-inside st (and-right (over arities s) (overs arities ss) o))
+
+  pub step-among : {s t : Term} → Step rules s t → T (over arities s) → Among arities _≻_ s t
+  step-among st o = record { left-over = o; right-over = step-stays-over st o; above = step-goes-down st o }
 
 -- What a rule makes of a whole term, and what the rules do.
 abbrev ByRule : Rule → Term → Term → Type 0
@@ -136,18 +159,20 @@ one-step-more h zero u steps = zero-le
 one-step-more h (suc n) u (step {t = s} st steps) = suc-le-suc (h s st n u steps)
 
 pub bounded :
-    {_≻_ : Term → Term → Type 0} → ReductionOrder _≻_ → (rules : List Rule) →
-    ((rule : Rule) → List·Memᴰ rule rules → _≻_ (rule .left) (rule .right)) →
-    (t : Term) → (N : ℕ) × ((steps : ℕ) (u : Term) → Steps rules steps t u → steps ≤ N)
-bounded {_≻_} order rules decrease t = from t (order .comesToRest t)
+    {arities : List ℕ} {_≻_ : Term → Term → Type 0} → ReductionOrder arities _≻_ → (rules : List Rule) →
+    ((rule : Rule) → List·Memᴰ rule rules → Among arities _≻_ (rule .left) (rule .right)) →
+    (t : Term) → T (over arities t) → (N : ℕ) × ((steps : ℕ) (u : Term) → Steps rules steps t u → steps ≤ N)
+bounded {arities} {_≻_} order rules decrease t o = from t o (order .comesToRest t o)
   where
     old : (rule : Rule) → List·Memᴰ rule rules → NoNew rule
-    old rule m = order .noNewVariable (rule .left) (rule .right) (decrease rule m)
+    old rule m = downward-good order rule (decrease rule m) .no-new
 
     grows : Grows (Within rules)
     grows s n m n≤m within steps u h = le-trans (within steps u h) n≤m
 
-    from : (t : Term) → Ends _≻_ t → (N : ℕ) × Within rules t N
-    from t (ends below) =
-        let (N, h) = finitely-steps rules old t (Within rules) grows (λ s st. from s (below s (step-goes-down order decrease st))) in
+    from : (t : Term) → T (over arities t) → Ends (Among arities _≻_) t → (N : ℕ) × Within rules t N
+    from t o (ends below) =
+        let (N, h) =
+        finitely-steps rules old t (Within rules) grows
+        (λ s st. let down = step-among order decrease st o in from s (down .right-over) (below s down)) in
         (suc N, one-step-more h)

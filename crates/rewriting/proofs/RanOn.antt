@@ -115,7 +115,7 @@ rules-stand {bytes} {places} {book} ranks stands limits cleared = record {
   variables = λ i p x o. let small = limits .left (ruleOf (book .rules) i) (member (book .rules) i p) .variables x o in omega arith;
   noNew =
       λ i p x o.
-      ranks-order ranks .noNewVariable (ruleOf (book .rules) i .left) (ruleOf (book .rules) i .right)
+      ranks-order (book .arities) ranks .noNewVariable (ruleOf (book .rules) i .left) (ruleOf (book .rules) i .right)
       (ranks-clear-exactly book ranks .0 cleared .1 (ruleOf (book .rules) i) (member (book .rules) i p)) x o;
   nodes = λ i p. limits .right (ruleOf (book .rules) i) (member (book .rules) i p) .nodes;
 }

@@ -8,13 +8,12 @@ use Rattle.term.specs.Term.{Term, Args, size, over, variableFree, variablesFree
 use Rattle.term.specs.Replacement.{Occurs, OccursIn, it, under, first, later}
 use Rattle.term.proofs.Prefix.{no-variable→free}
 use Rattle.book.specs.Book.{Rule}
-use Rattle.order.specs.ReductionOrder.{ReductionOrder}
+use Rattle.order.specs.ReductionOrder.{Among, ReductionOrder}
 use Rattle.rewriting.specs.Run.{runFrom}
 use Rattle.rewriting.specs.Step.{Step}
-use Rattle.rewriting.proofs.Bound.{step-goes-down}
+use Rattle.rewriting.proofs.Bound.{step-among}
 use Rattle.rewriting.proofs.OwnStep.{own-step-is-free}
 use Rattle.rewriting.proofs.Run.{every-run}
-use Rattle.rewriting.proofs.StaysOver.{step-over}
 
 -- No variable occurs in a term without variables.
 mutual
@@ -35,15 +34,16 @@ pub record Recordable (arities : List ℕ) (t : Term) : Type 0 where
   pub few : size t ≤ 256
 
 module _
-    {_≻_ : Term → Term → Type 0} (order : ReductionOrder _≻_) (arities : List ℕ) (rules : List Rule)
-    (decrease : (rule : Rule) → List·Memᴰ rule rules → _≻_ (rule .left) (rule .right))
-    (rights : (rule : Rule) → List·Memᴰ rule rules → T (over arities (rule .right))) where
+    {arities : List ℕ} {_≻_ : Term → Term → Type 0} (order : ReductionOrder arities _≻_) (rules : List Rule)
+    (decrease : (rule : Rule) → List·Memᴰ rule rules → Among arities _≻_ (rule .left) (rule .right)) where
   step-recordable : (s t : Term) → Step rules s t → size t ≤ 256 → Recordable arities s → Recordable arities t
-  step-recordable s t st few r = record {
-    overSymbols = step-over arities (λ rule m. record { right-over = rights rule m; no-new = order .noNewVariable (rule .left) (rule .right) (decrease rule m) }) st (r .overSymbols);
-    ground = no-variable→free t (λ x o. free→no-variable (order .noNewVariable s t (step-goes-down order decrease st) x o) (r .ground));
-    few = few;
-  }
+  step-recordable s t st few r =
+      let down = step-among order decrease st (r .overSymbols) in
+      record {
+        overSymbols = down .right-over;
+        ground = no-variable→free t (λ x o. free→no-variable (order .noNewVariable s t (down .above) x o) (r .ground));
+        few = few;
+      }
 
   pub run-recordable : (budget made : ℕ) (t : Term) → Recordable arities t → Recordable arities (runFrom rules budget made t .reached)
   run-recordable =

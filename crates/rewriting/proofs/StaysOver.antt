@@ -18,7 +18,7 @@ use Rattle.rewriting.proofs.Joined.{count-replaceAll}
 
 module _ (arities : List ℕ) where
   -- The parts of an application over the symbols.
-  abbrev Root : ℕ → Args → Bool
+  abbrev pub Root : ℕ → Args → Bool
   Root f ts = ltb f (length arities) && eqb (getD arities f 0) (count ts)
 
   root-as-many : (f : ℕ) (ss ts : Args) → count ts ≡ count ss → T (Root f ss) → T (Root f ts)
@@ -46,7 +46,7 @@ module _ (arities : List ℕ) where
   mutual
     unfolding replace over
 
-    over-variable : (σ : Replacement) {t : Term} {x : ℕ} → Occurs x t → T (over arities (replace σ t)) → T (over arities (σ x))
+    pub over-variable : (σ : Replacement) {t : Term} {x : ℕ} → Occurs x t → T (over arities (replace σ t)) → T (over arities (σ x))
     over-variable σ it o = o
     over-variable σ (under {f = f} {ts = ts} i) o = over-variable-in σ i (and-right (Root f (replaceAll σ ts)) (overs arities (replaceAll σ ts)) o)
 
