@@ -12,7 +12,7 @@ use Rattle.term.specs.Term.{Term, Args, var, app, nil, cons, count, same}
 use Rattle.term.proofs.Same.{same→identical}
 use Rattle.order.specs.Precedence.{Above, above}
 use Rattle.order.specs.Test.{everyArg, someArg, decreaseAt, reaches, atRoot, exceeds}
-use Rattle.order.specs.Places.{rootOf}
+use Rattle.order.specs.Compared.{rootOf}
 use Rattle.order.specs.declared.compare.Root.the-variants.{Variable}
 use Rattle.order.proofs.Decides.{above-decides, exceeds-decides, exceeds-root, exceeds-var}
 use Rattle.order.proofs.PathOrder.{exceeds-irreflexive}

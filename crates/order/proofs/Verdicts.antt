@@ -10,6 +10,7 @@ use Rattle.book.specs.Reading.{readBook}
 use Rattle.book.specs.Meaning.{told}
 use Rattle.book.specs.declared.BookVerdict.{BookVerdict}
 use Rattle.book.specs.declared.BookVerdict.the-variants.{Readable, Ended, UnknownKind, NotAllowed, BadBody, TooMany, AfterEnd}
+use Rattle.order.specs.Test.{exceeds}
 use Rattle.order.specs.Clearing.{allDecrease, ranksClear, checkRanks}
 use Rattle.order.specs.Meaning.{refusalOnly, ranksMeaning}
 use Rattle.order.specs.declared.RanksVerdict.the-variants.{Unreadable}
@@ -18,7 +19,7 @@ pub wrong-count : (book : Book) (ranks : List ℕ) → (length ranks ≡ symbols
 unfolding ranksClear unless _>>_
 wrong-count book ranks other = rw (ne-eqb (length ranks) (symbols book) other, _>>_)
 
-pub right-count : (book : Book) (ranks : List ℕ) → length ranks ≡ symbols book → ranksClear book ranks ≡ allDecrease ranks 0 (book .rules)
+pub right-count : (book : Book) (ranks : List ℕ) → length ranks ≡ symbols book → ranksClear book ranks ≡ allDecrease (exceeds ranks) 0 (book .rules)
 unfolding ranksClear unless _>>_
 right-count book ranks same = rw (eq-eqb (length ranks) (symbols book) same, _>>_)
 

@@ -5,34 +5,38 @@ use mathlib.Core.List.{List, [], _∷_, List·Memᴰ}
 use lib.Dec.{eqb}
 use lib.ListN.{length}
 use Rattle.reply.specs.Reply.{Reply, given, refused, unless, _>>_, _>>=_, _at_}
+use Rattle.term.specs.Term.{Term}
 use Rattle.book.specs.Book.{Book, Rule, symbols}
 use Rattle.book.specs.Reading.{readBook}
 use Rattle.order.specs.Exceeds.{Exceeds}
 use Rattle.order.specs.Test.{exceeds}
 
--- A rule decreases: its left side exceeds its right side.
-unfoldable pub Decreases : (above : ℕ → ℕ → Type 0) → Rule → Type 0
-Decreases above rule = Exceeds above (rule .left) (rule .right)
+-- A rule decreases: its left side is above its right side, in whichever order.
+unfoldable pub Decreases : (_≻_ : Term → Term → Type 0) → Rule → Type 0
+Decreases _≻_ rule = _≻_ (rule .left) (rule .right)
 
--- "makes every rule decrease".
-unfoldable pub Clears : (above : ℕ → ℕ → Type 0) → List Rule → Type 0
-Clears above rules = (rule : Rule) → List·Memᴰ rule rules → Decreases above rule
+unfoldable pub AllDecrease : (_≻_ : Term → Term → Type 0) → List Rule → Type 0
+AllDecrease _≻_ rules = (rule : Rule) → List·Memᴰ rule rules → Decreases _≻_ rule
 
-unfoldable pub decreases : (ranks : List ℕ) → Rule → Bool
-decreases ranks rule = exceeds ranks (rule .left) (rule .right)
+-- "makes every rule decrease": what a relation on the symbols does.
+abbrev pub Clears : (above : ℕ → ℕ → Type 0) → List Rule → Type 0
+Clears above rules = AllDecrease (Exceeds above) rules
+
+unfoldable pub decreases : (exceeds : Term → Term → Bool) → Rule → Bool
+decreases exceeds rule = exceeds (rule .left) (rule .right)
 
 -- Refusal 8, "some rule does not decrease", at "the lowest such rule"; these rules are numbered from `number` on.
-unfoldable pub allDecrease : (ranks : List ℕ) (number : ℕ) → List Rule → Reply (Unit {0})
-allDecrease ranks number [] = given tt
-allDecrease ranks number (rule ∷ rules) = do
-  unless (decreases ranks rule) (8 at number)
-  allDecrease ranks (suc number) rules
+unfoldable pub allDecrease : (exceeds : Term → Term → Bool) (number : ℕ) → List Rule → Reply (Unit {0})
+allDecrease exceeds number [] = given tt
+allDecrease exceeds number (rule ∷ rules) = do
+  unless (decreases exceeds rule) (8 at number)
+  allDecrease exceeds (suc number) rules
 
 -- "ranks 7, 8", of a book that was read.
 unfoldable pub ranksClear : Book → (ranks : List ℕ) → Reply (Unit {0})
 ranksClear book ranks = do
   unless (eqb (length ranks) (symbols book)) (7 at 0)
-  allDecrease ranks 0 (book .rules)
+  allDecrease (exceeds ranks) 0 (book .rules)
 
 -- ENTRY POINT: check ranks.
 unfoldable pub checkRanks : (book ranks : List ℕ) → Reply (Unit {0})

@@ -2,9 +2,9 @@
 use Rattle.book.specs.Computing
 use Rattle.order.specs.Precedence.{Above, above}
 use Rattle.order.specs.Test.{everyArg, someArg, decreaseAt, reaches, atRoot, exceedsIn, exceeds}
-use Rattle.order.specs.Clearing.{Decreases, Clears, decreases, allDecrease, ranksClear, checkRanks}
+use Rattle.order.specs.Clearing.{Decreases, AllDecrease, decreases, allDecrease, ranksClear, checkRanks}
 use Rattle.order.specs.Meaning.{decreaseMeaning, refusalOnly, ranksMeaning}
 
 unfoldable pub computing : Unit {0}
-unfolding Computing.computing Above above everyArg someArg decreaseAt reaches atRoot exceedsIn exceeds Decreases Clears decreases allDecrease ranksClear checkRanks decreaseMeaning refusalOnly ranksMeaning
+unfolding Computing.computing Above above everyArg someArg decreaseAt reaches atRoot exceedsIn exceeds Decreases AllDecrease decreases allDecrease ranksClear checkRanks decreaseMeaning refusalOnly ranksMeaning
 computing = tt

@@ -1,10 +1,10 @@
 pub mod Precedence
 pub mod Exceeds
 pub mod Test
-pub mod Places
+pub mod Compared
 pub mod Clearing
 pub mod Standing
-pub mod RankTable
+pub mod SameRanks
 pub mod Meaning
 pub mod ReductionOrder
 pub mod Computing

@@ -5,7 +5,7 @@ ghost use Prim.Native.Nat.{ℕ, _<_};
 ghost use Rattle.term.specs.Term.{Term, size};
 ghost use Rattle.term.specs.At.{At, Standing};
 ghost use Rattle.order.specs.Precedence.{above};
-ghost use Rattle.order.specs.Places.{RootAt, SideAt, ArgumentsAt, ExceedsAt, SomeReachesAt, ExceedsEveryAt, DecreasesAt};
+ghost use Rattle.order.specs.Compared.{RootAt, SideAt, ArgumentsAt, ExceedsAt, SomeReachesAt, ExceedsEveryAt, DecreasesAt};
 
 // A byte as a number.
 fn wide(x: u8) -> usize

@@ -7,9 +7,10 @@ ghost use mathlib.Core.Path.{_≡_};
 ghost use Prim.Native.Nat.{_≤_};
 ghost use lib.ListN.{length};
 ghost use Rattle.book.specs.Meaning.{bookAt};
+ghost use Rattle.order.specs.Test.{exceeds};
 ghost use Rattle.order.specs.Clearing.{allDecrease, ranksClear, checkRanks};
 ghost use Rattle.order.specs.Meaning.{decreaseMeaning, ranksMeaning};
-ghost use Rattle.order.specs.RankTable.{SameRanks};
+ghost use Rattle.order.specs.SameRanks.{SameRanks};
 ghost use Rattle.order.specs.Standing.{BookStands};
 
 // Whether every rule decreases, or the lowest that does not.
@@ -29,7 +30,7 @@ pub enum RanksVerdict {
 // The lowest rule that does not decrease, of a book that stands at its places in these bytes.
 pub fn first_not_decreasing(bytes: &[u8], book: Book, ranks: [u8; 16]) -> Decrease
     requires { ⌜ BookStands (now bytes) book (bookAt (now bytes) book) ⌝ }
-    ensures { λ r. ⌜ decreaseMeaning r ≡ allDecrease ranks 0 ((bookAt (now (bytes .entry)) book) .rules) ⌝ }
+    ensures { λ r. ⌜ decreaseMeaning r ≡ allDecrease (exceeds ranks) 0 ((bookAt (now (bytes .entry)) book) .rules) ⌝ }
 {
     let arities = book.arities;
     let rules = book.rules;

@@ -9,9 +9,10 @@ use lib.ListN.{getD}
 use Rattle.term.specs.Term.{var}
 use Rattle.book.specs.Book.{Rule}
 use Rattle.book.specs.Meaning.{bookAt}
+use Rattle.order.specs.Test.{exceeds}
 use Rattle.order.specs.Clearing.{decreases, allDecrease}
 use Rattle.order.specs.Meaning.{decreaseMeaning}
-use Rattle.order.proofs.Places.{side-at}
+use Rattle.order.proofs.Compared.{side-at}
 use Rattle.order.proofs.Lowest.{from, all-from-first, decreases-here, fails-here, none-left}
 use Rattle.order.proofs.first_not_decreasing.Statement.{statement}
 use Rattle.order.proofs.first_not_decreasing.Tie as tie
@@ -22,7 +23,7 @@ other = record { left = var 0; right = var 0 }
 
 abbrev Inv-loop : tie.InvT-loop
 Inv-loop bytes ranks book arities rules rule₀ rule =
-    (rule ≤ rules) × (from ranks ((bookAt bytes book) .rules) other rule ≡ allDecrease ranks 0 ((bookAt bytes book) .rules))
+    (rule ≤ rules) × (from (exceeds ranks) ((bookAt bytes book) .rules) other rule ≡ allDecrease (exceeds ranks) 0 ((bookAt bytes book) .rules))
 
 abbrev μ-loop : tie.MeasureT-loop
 μ-loop bytes ranks book arities rules rule₀ rule = rules - rule
@@ -30,7 +31,7 @@ abbrev μ-loop : tie.MeasureT-loop
 loop-holds : tie.Need-loop-holds Inv-loop μ-loop
 loop-holds c =
     let start = c .before .before in
-    (omega arith, all-from-first (start .args .ranks) ((bookAt (start .args .bytes .now) (start .args .t2)) .rules) other)
+    (omega arith, all-from-first (exceeds (start .args .ranks)) ((bookAt (start .args .bytes .now) (start .args .t2)) .rules) other)
 
 mul-s : tie.Need-mul-s Inv-loop μ-loop
 mul-s c = search needs
@@ -67,7 +68,7 @@ exceeds-requires c κs =
 rule-decreases :
     (c : tie.After-exceeds Inv-loop μ-loop) →
     c .exceeds .result ≡
-    decreases (c .before .before .before .before .before .before .before .before .before .args .ranks) (getD ((bookAt (c .before .before .before .before .before .before .before .before .before .args .bytes .now) (c .before .before .before .before .before .before .before .before .before .args .t2)) .rules) (c .before .before .before .before .before .before .loop .rule) other)
+    decreases (exceeds (c .before .before .before .before .before .before .before .before .before .args .ranks)) (getD ((bookAt (c .before .before .before .before .before .before .before .before .before .args .bytes .now) (c .before .before .before .before .before .before .before .before .before .args .t2)) .rules) (c .before .before .before .before .before .before .loop .rule) other)
 unfolding decreases
 rule-decreases c =
     let stand = c .before .before .before .before .before .before .before .before .before .pre in
@@ -83,7 +84,7 @@ returns c =
     let head = c .before .before .before .before .before .before .before .loop in
     let rules = (bookAt (start .args .bytes .now) (start .args .t2)) .rules in
     let fails = sym (rule-decreases (c .before)) ∙ not-true (c .before .exceeds .result) (c .if1 .taken) in
-    sym (fails-here (start .args .ranks) rules other (head .rule) (omega (arith, start .pre .ruleCount, c .before .before .before .before .before .before .loop-test .taken)) fails) ∙ head .inv .1
+    sym (fails-here (exceeds (start .args .ranks)) rules other (head .rule) (omega (arith, start .pre .ruleCount, c .before .before .before .before .before .before .loop-test .taken)) fails) ∙ head .inv .1
 
 add-rule : tie.Need-add-rule Inv-loop μ-loop
 add-rule c = omega (arith, c .before .before .before .before .before .before .before .before .before .before .pre .fewRules, c .before .before .before .before .before .before .loop-test .taken)
@@ -98,7 +99,7 @@ loop-again c =
     let rules = (bookAt (start .args .bytes .now) (start .args .t2)) .rules in
     let holds = sym (rule-decreases (c .before)) ∙ not-false (c .before .exceeds .result) (c .if1 .left) in (
       omega (arith, c .before .before .before .before .before .before .loop-test .taken),
-      sym (decreases-here (start .args .ranks) rules other (head .rule) (omega (arith, start .pre .ruleCount, c .before .before .before .before .before .before .loop-test .taken)) holds) ∙ head .inv .1,
+      sym (decreases-here (exceeds (start .args .ranks)) rules other (head .rule) (omega (arith, start .pre .ruleCount, c .before .before .before .before .before .before .loop-test .taken)) holds) ∙ head .inv .1,
     )
 
 returns-2 : tie.Need-returns-2 Inv-loop μ-loop
@@ -107,7 +108,7 @@ returns-2 c =
     let start = c .before .before .before .before in
     let head = c .before .loop in
     let rules = (bookAt (start .args .bytes .now) (start .args .t2)) .rules in
-    sym (none-left (start .args .ranks) rules other (head .rule) (omega (arith, start .pre .ruleCount))) ∙ head .inv .1
+    sym (none-left (exceeds (start .args .ranks)) rules other (head .rule) (omega (arith, start .pre .ruleCount))) ∙ head .inv .1
 
 pub first-not-decreasing-spec : {M : Type 1} → statement M
 first-not-decreasing-spec =

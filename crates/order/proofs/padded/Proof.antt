@@ -3,7 +3,7 @@
 use Prim.Native.Nat.{_-_}
 use native.Mathlib.Omega.{arith}
 use lib.ListN.{length}
-use Rattle.order.proofs.RankTable.{Filled, nothing-filled, one-more-filled, all-filled}
+use Rattle.order.proofs.Filled.{Filled, nothing-filled, one-more-filled, all-filled}
 use Rattle.order.proofs.padded.Statement.{statement}
 use Rattle.order.proofs.padded.Tie as tie
 

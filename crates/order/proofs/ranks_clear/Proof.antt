@@ -5,7 +5,7 @@ use borrow.Author.Needs.{needs}
 use Rattle.book.specs.Meaning.{bookAt}
 use Rattle.order.specs.Meaning.{decreaseMeaning, ranksMeaning}
 use Rattle.order.specs.Clearing.{ranksClear}
-use Rattle.order.proofs.RankTable.{all-decrease-same}
+use Rattle.order.proofs.SameRanks.{all-decrease-same}
 use Rattle.order.proofs.Verdicts.{wrong-count, right-count}
 use Rattle.order.proofs.ranks_clear.Statement.{statement}
 use Rattle.order.proofs.ranks_clear.Tie as tie

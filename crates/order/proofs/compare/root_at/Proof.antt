@@ -4,7 +4,7 @@ use mathlib.Core.Path.{sym, ap}
 use native.Mathlib.Omega.{arith}
 use borrow.Author.Needs.{needs}
 use Rattle.term.proofs.At.{at-root, symbol-root, variable-root}
-use Rattle.order.specs.Places.{rootOf}
+use Rattle.order.specs.Compared.{rootOf}
 use Rattle.order.proofs.compare.root_at.Statement.{statement}
 use Rattle.order.proofs.compare.root_at.Tie as tie
 

@@ -8,7 +8,7 @@ use Rattle.term.specs.Term.{Term, same, size}
 use Rattle.term.specs.At.{At}
 use Rattle.term.proofs.At.{args-count}
 use Rattle.order.specs.Test.{exceeds}
-use Rattle.order.proofs.Places.{Parted, first-standing, parted, wider, none-there, decreases-for-all}
+use Rattle.order.proofs.Compared.{Parted, first-standing, parted, wider, none-there, decreases-for-all}
 use Rattle.order.proofs.Stepwise.{identical, decrease-none, decrease-later, decrease-here, decrease-fails}
 use Rattle.order.proofs.compare.decreases_at.Reads as reads
 use Rattle.order.proofs.compare.decreases_at.Kinds as kinds

@@ -7,8 +7,8 @@ use native.Mathlib.Omega.{arith}
 use borrow.Author.Tests.{not-true, not-false}
 use borrow.Fn.Kinds.{In, Out}
 use Rattle.order.specs.Test.{exceeds}
-use Rattle.order.specs.Places.{ArgumentsAt, ExceedsEveryAt}
-use Rattle.order.proofs.Places.{Parted, first-standing, parted, wider, none-there, every-for-all}
+use Rattle.order.specs.Compared.{ArgumentsAt, ExceedsEveryAt}
+use Rattle.order.proofs.Compared.{Parted, first-standing, parted, wider, none-there, every-for-all}
 use Rattle.order.proofs.Stepwise.{every-none, every-later, every-fails}
 use Rattle.order.proofs.compare.exceeds_every.Reads as reads
 use Rattle.order.proofs.compare.exceeds_every.Kinds as kinds

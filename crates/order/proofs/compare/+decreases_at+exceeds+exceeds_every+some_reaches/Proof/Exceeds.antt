@@ -8,7 +8,7 @@ use borrow.Author.Needs.{needs}
 use borrow.Fn.Kinds.{In, Out}
 use Rattle.term.specs.Term.{Args}
 use Rattle.order.specs.Test.{someArg, reaches, exceeds}
-use Rattle.order.proofs.Places.{SymbolSide, standing, symbol-side, wider, as-many, exceeds-for-all}
+use Rattle.order.proofs.Compared.{SymbolSide, standing, symbol-side, wider, as-many, exceeds-for-all}
 use Rattle.order.proofs.Stepwise.{variable-exceeds-nothing, root-reaches, root-variable, root-above, root-equal, root-fails}
 use Rattle.order.proofs.compare.exceeds.Reads as reads
 use Rattle.order.proofs.compare.exceeds.Kinds as kinds

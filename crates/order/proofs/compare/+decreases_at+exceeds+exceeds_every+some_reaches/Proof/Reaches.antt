@@ -8,8 +8,8 @@ use borrow.Fn.Kinds.{In, Out}
 use Rattle.term.specs.Term.{same}
 use Rattle.term.proofs.At.{args-first}
 use Rattle.order.specs.Test.{exceeds}
-use Rattle.order.specs.Places.{ArgumentsAt, SomeReachesAt}
-use Rattle.order.proofs.Places.{Parted, standing, first-standing, parted, wider, none-there, some-for-all}
+use Rattle.order.specs.Compared.{ArgumentsAt, SomeReachesAt}
+use Rattle.order.proofs.Compared.{Parted, standing, first-standing, parted, wider, none-there, some-for-all}
 use Rattle.order.proofs.Stepwise.{some-none, some-identical, some-exceeds, some-later}
 use Rattle.order.proofs.compare.some_reaches.Reads as reads
 use Rattle.order.proofs.compare.some_reaches.Kinds as kinds

@@ -11,7 +11,7 @@ use Rattle.term.specs.Term.{Term, Args, app, nil, cons, size, sizes, count}
 use Rattle.term.specs.At.{At, ArgsAt, Standing, variableAt, symbolAt}
 use Rattle.term.proofs.At.{at-unique, args-unique, at-end, at-within, args-count, args-first, args-none, sizes-count}
 use Rattle.order.specs.Test.{everyArg, someArg, decreaseAt, reaches, exceeds}
-use Rattle.order.specs.Places.{rootOf, SideAt, ArgumentsAt, ExceedsAt, SomeReachesAt, ExceedsEveryAt, DecreasesAt}
+use Rattle.order.specs.Compared.{rootOf, SideAt, ArgumentsAt, ExceedsAt, SomeReachesAt, ExceedsEveryAt, DecreasesAt}
 use Rattle.order.specs.Standing.{SideIs}
 use Rattle.order.specs.declared.compare.Root.the-variants.{Symbol}
 

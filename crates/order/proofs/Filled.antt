@@ -1,20 +1,12 @@
--- Ranks laid into a table of 16, one symbol after another; and the order looks at nothing but the rank of each symbol, so a table that
--- gives the same ranks gives the same replies. Assumes nothing.
-use Prim.Native.Nat.{ℕ, suc, _+_, _≤_, _<_}
-use mathlib.Core.Bool.{Bool}
-use mathlib.Core.List.{List, [], _∷_}
-use mathlib.Core.Path.{_≡_, refl, sym, ap, ap₂, subst, fun-ext, _∙_}
+-- Ranks laid into a table of 16, one symbol after another. Assumes nothing.
+use Prim.Native.Nat.{ℕ, _+_, _≤_, _<_}
+use mathlib.Core.List.{List}
+use mathlib.Core.Path.{_≡_, refl, sym, subst, _∙_}
 use native.Mathlib.Decide.{decLt}
 use native.Mathlib.Omega.{arith}
-use lib.Dec.{ltb}
 use lib.ListN.{length, getD, set, replicate, length-set, getD-replicate, List·getD-eq-default}
 use lib.Seq.{getD-set-same, getD-set-other}
-use Rattle.term.specs.Term.{Term, size}
-use Rattle.book.specs.Book.{Rule}
-use Rattle.order.specs.Precedence.{above}
-use Rattle.order.specs.Test.{exceedsIn, exceeds}
-use Rattle.order.specs.Clearing.{decreases, allDecrease}
-use Rattle.order.specs.RankTable.{SameRanks}
+use Rattle.order.specs.SameRanks.{SameRanks}
 
 -- The ranks of the symbols below f are in the table, and 0 is everywhere else.
 pub record Filled (ranks table : List ℕ) (f : ℕ) : Type 0 where
@@ -59,21 +51,3 @@ all-filled {ranks} {table} {f} filled whole k = elim (decLt k f) [
   | yes inside ↦ filled .copied k inside
   | no past ↦ filled .blank k (omega arith) ∙ sym (List·getD-eq-default ranks 0 {n = k} (omega arith))
 ]
-
-module _ (table ranks : List ℕ) (same : SameRanks table ranks) where
-  above-same : above table ≡ above ranks
-  unfolding above
-  above-same = fun-ext (λ f. fun-ext (λ g. ap₂ ltb (same g) (same f)))
-
-  pub exceeds-same : (s t : Term) → exceeds table s t ≡ exceeds ranks s t
-  unfolding exceeds
-  exceeds-same s t = ap (λ (higher : ℕ → ℕ → Bool). exceedsIn (size s + size t) higher s t) above-same
-
-  decreases-same : (rule : Rule) → decreases table rule ≡ decreases ranks rule
-  unfolding decreases
-  decreases-same rule = exceeds-same (rule .left) (rule .right)
-
-  pub all-decrease-same : (number : ℕ) (rules : List Rule) → allDecrease table number rules ≡ allDecrease ranks number rules
-  unfolding allDecrease
-  all-decrease-same number [] = refl
-  all-decrease-same number (rule ∷ rules) = rw (decreases-same rule, all-decrease-same (suc number) rules)
