@@ -20,9 +20,10 @@ use Rattle.book.specs.Meaning.{told}
 use Rattle.book.specs.Reading.{readBook}
 use Rattle.book.specs.declared.BookVerdict.{BookVerdict}
 use Rattle.book.specs.declared.BookVerdict.the-variants.{Readable, Ended, UnknownKind, NotAllowed, BadBody, TooMany, AfterEnd}
+use Rattle.order.specs.Test.{exceeds}
 use Rattle.order.specs.Clearing.{allDecrease}
 use Rattle.order.specs.Meaning.{decreaseMeaning, refusalOnly}
-use Rattle.order.proofs.RankTable.{all-decrease-same}
+use Rattle.order.proofs.SameRanks.{all-decrease-same}
 use Rattle.order.specs.declared.Decrease.{Decrease}
 use Rattle.order.specs.declared.Decrease.the-variants.{Everywhere, NotAt}
 use Rattle.clauses.specs.Cnf.{Literal, Assignment}
@@ -76,7 +77,7 @@ module _ (book : Book) (α : Assignment) (buffer : List ℕ) where
     where
       checked :
           ranksChecked book α (length buffer)
-          ≡ _>>_ (allDecrease (ranksOf (symbols book) (rankBits (symbols book)) α) 0 (book .rules))
+          ≡ _>>_ (allDecrease (exceeds (ranksOf (symbols book) (rankBits (symbols book)) α)) 0 (book .rules))
           (given (ranksOf (symbols book) (rankBits (symbols book)) α))
       unfolding ranksChecked unless _>>_
       checked = let fits : symbols book ≤ length buffer = omega arith in rw (le-leb _ _ fits)
@@ -85,14 +86,14 @@ module _ (book : Book) (α : Assignment) (buffer : List ℕ) where
       unfolding rankTable
       as-table = rw (table, bits, count)
 
-      asked : allDecrease ranks 0 (book .rules) ≡ allDecrease (ranksOf (symbols book) (rankBits (symbols book)) α) 0 (book .rules)
+      asked : allDecrease (exceeds ranks) 0 (book .rules) ≡ allDecrease (exceeds (ranksOf (symbols book) (rankBits (symbols book)) α)) 0 (book .rules)
       asked =
-          ap (λ (l : List ℕ). allDecrease l 0 (book .rules)) as-table
+          ap (λ (l : List ℕ). allDecrease (exceeds l) 0 (book .rules)) as-table
           ∙ all-decrease-same _ _ (padded-ranks (ranksOf (symbols book) (rankBits (symbols book)) α) (16 - symbols book)) 0 (book .rules)
 
       -- By the check's answer.
       by-answer :
-          (d : Decrease) → decreaseMeaning d ≡ allDecrease ranks 0 (book .rules) →
+          (d : Decrease) → decreaseMeaning d ≡ allDecrease (exceeds ranks) 0 (book .rules) →
           ranksChecked book α (length buffer) ≡ _>>_ (decreaseMeaning d) (given (ranksOf (symbols book) (rankBits (symbols book)) α))
       by-answer d answer =
           checked ∙ ap (λ (x : Reply (Unit {0})). _>>_ x (given (ranksOf (symbols book) (rankBits (symbols book)) α))) (sym asked ∙ sym answer)
@@ -111,7 +112,7 @@ module _ (book : Book) (α : Assignment) (buffer : List ℕ) where
       none = copied-whole ranks 0 0 (length buffer) (omega arith)
 
       laid-so :
-          (d : Decrease) → decreaseMeaning d ≡ allDecrease ranks 0 (book .rules) →
+          (d : Decrease) → decreaseMeaning d ≡ allDecrease (exceeds ranks) 0 (book .rules) →
           Allowed (ranksChecked book α (length buffer)) buffer (acceptedAs n d)
           (overlaid (copied ranks 0 (ranksIn (acceptedAs n d)) (length buffer)) buffer)
       unfolding decreaseMeaning answeredMeaning _>>_
@@ -122,7 +123,7 @@ module _ (book : Book) (α : Assignment) (buffer : List ℕ) where
 
       -- As many ranks are laid as are accepted.
       pub ranks-laid :
-          (d : Decrease) (r : Answered) (m : ℕ) (after : List ℕ) → decreaseMeaning d ≡ allDecrease ranks 0 (book .rules) → r ≡ acceptedAs n d →
+          (d : Decrease) (r : Answered) (m : ℕ) (after : List ℕ) → decreaseMeaning d ≡ allDecrease (exceeds ranks) 0 (book .rules) → r ≡ acceptedAs n d →
           m ≡ ranksIn r → after ≡ overlaid (copied ranks 0 m (length buffer)) buffer → Allowed (ranksChecked book α (length buffer)) buffer r after
       ranks-laid d r m after answer verdict many laid = rw (laid, many, verdict) (laid-so d answer)
 

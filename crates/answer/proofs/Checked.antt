@@ -10,6 +10,7 @@ use Rattle.term.specs.Tables.{rankBits}
 use Rattle.reply.proofs.Given.{bind-given, given-bind, then-given, unless-given, given-unless}
 use Rattle.book.specs.Book.{Book, symbols}
 use Rattle.book.specs.Reading.{readBook}
+use Rattle.order.specs.Test.{exceeds}
 use Rattle.order.specs.Clearing.{allDecrease, ranksClear, checkRanks}
 use Rattle.clauses.specs.Cnf.{Assignment}
 use Rattle.clauses.specs.Numbering.{numbers, rankBelow, ranksOf}
@@ -27,7 +28,7 @@ length-ranksOf n k α = length-map (numbers 0 n) (λ f. rankBelow k α f k) ∙ 
 
 -- One rank for each symbol under which every rule decreases: the rank check asks no more.
 clearing :
-    (book : Book) (ranks : List ℕ) → length ranks ≡ symbols book → allDecrease ranks 0 (book .rules) ≡ given tt → ranksClear book ranks ≡ given tt
+    (book : Book) (ranks : List ℕ) → length ranks ≡ symbols book → allDecrease (exceeds ranks) 0 (book .rules) ≡ given tt → ranksClear book ranks ≡ given tt
 unfolding ranksClear
 clearing book ranks count decrease = given-unless _ _ _ (rw count (eqb-refl (symbols book))) ∙ decrease
 

@@ -9,7 +9,7 @@ use lib.Dec.{eqb}
 use lib.ListN.{getD, set, replicate}
 use lib.Seq.{set-at}
 use borrow.Author.Tests.{eq-eqb, ne-eqb}
-use Rattle.order.specs.RankTable.{SameRanks}
+use Rattle.order.specs.SameRanks.{SameRanks}
 use Rattle.clauses.specs.Cnf.{Assignment}
 use Rattle.clauses.specs.Numbering.{bit, numbers, rankBelow, ranksOf}
 use Rattle.clauses.proofs.Larger.{rankBelow-bound}

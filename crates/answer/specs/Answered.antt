@@ -7,6 +7,7 @@ use Rattle.reply.specs.Reply.{Reply, given, refused, unless, _>>_, _at_}
 use Rattle.term.specs.Tables.{rankBits}
 use Rattle.book.specs.Book.{Book, symbols}
 use Rattle.book.specs.Meaning.{told}
+use Rattle.order.specs.Test.{exceeds}
 use Rattle.order.specs.Clearing.{allDecrease}
 use Rattle.order.specs.Meaning.{refusalOnly}
 use Rattle.order.specs.declared.Decrease.{Decrease}
@@ -32,7 +33,7 @@ answeredMeaning (NotDecreasing rule) = refused (8 at rule)
 unfoldable pub ranksChecked : Book → Assignment → (room : ℕ) → Reply (List ℕ)
 ranksChecked book α room = do
   unless (leb (symbols book) room) (9 at 0)
-  allDecrease (ranksOf (symbols book) (rankBits (symbols book)) α) 0 (book .rules)
+  allDecrease (exceeds (ranksOf (symbols book) (rankBits (symbols book)) α)) 0 (book .rules)
   given (ranksOf (symbols book) (rankBits (symbols book)) α)
 
 -- What the check of ranks for so many symbols answers, and how many ranks an answer accepts.

@@ -8,6 +8,7 @@ use Rattle.reply.specs.Reply.{Reply, given, refused, unless, _>>_, _>>=_, _at_}
 use Rattle.term.specs.Tables.{rankBits}
 use Rattle.book.specs.Book.{Book, symbols}
 use Rattle.book.specs.Reading.{readBook}
+use Rattle.order.specs.Test.{exceeds}
 use Rattle.order.specs.Clearing.{allDecrease}
 use Rattle.clauses.specs.Cnf.{Literal, is, isNot, Assignment}
 use Rattle.clauses.specs.Numbering.{ranksOf}
@@ -26,7 +27,7 @@ answered book text room = do
   unless (leb (length text) 65536) (12 at 0)
   literals ← readAnswer («V» book) (symbols book * rankBits (symbols book)) text
   unless (leb (symbols book) room) (9 at 0)
-  allDecrease (ranksOf (symbols book) (rankBits (symbols book)) (valued literals)) 0 (book .rules)
+  allDecrease (exceeds (ranksOf (symbols book) (rankBits (symbols book)) (valued literals))) 0 (book .rules)
   given (ranksOf (symbols book) (rankBits (symbols book)) (valued literals))
 
 -- ENTRY POINT: ranks from an answer.

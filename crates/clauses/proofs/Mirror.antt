@@ -1,7 +1,7 @@
 -- The parts mirror the order: where C agrees with the test `exceeds` at smaller pairs of subterms and G with the ranks, all of D's parts
 -- are true exactly if case (1) or (2) holds, and some of C's exactly if the order does. Assumes nothing.
 use Prim.Native.Nat.{ℕ, suc, _+_, _<_}
-use mathlib.Core.Bool.{Bool, true, false, _&&_, _||_, and-true, or-false, or-assoc}
+use mathlib.Core.Bool.{Bool, true, false, _&&_, _||_, and-true, or-false, or-assoc, or-comm}
 use mathlib.Core.List.{List, [], _∷_, _++_, map, List·Memᴰ, List·Memᴰ·head, List·Memᴰ·tail}
 use mathlib.Core.Logic.{_≢_}
 use mathlib.Core.Path.{_≡_, refl, sym, _∙_, ap, ap₂, subst}
@@ -14,7 +14,7 @@ use Rattle.term.specs.Term.{Term, Args, var, app, nil, cons, size, count, same,
 use Rattle.reply.proofs.Tests.{and-left, and-right}
 use Rattle.term.proofs.Same.{same→identical}
 use Rattle.order.specs.Precedence.{above}
-use Rattle.order.specs.Test.{everyArg, someArg, decreaseAt, reaches, atRoot, exceeds}
+use Rattle.order.specs.Test.{everyArg, someArg, decreaseAt, reaches, case1Holds, case2Holds, case3Holds, atRoot, exceeds}
 use Rattle.order.proofs.Decides.{exceeds-decides, exceeds-var, exceeds-root}
 use Rattle.order.proofs.PathOrder.{exceeds-irreflexive}
 use Rattle.clauses.specs.Cnf.{Assignment}
@@ -26,9 +26,7 @@ use Rattle.clauses.proofs.Subterms.{argumentsAt, argument-within, argum
 -- Cases (1) and (2) of the order at the roots of s and t.
 unfoldable pub rootCases : (ranks : List ℕ) (s t : Term) → Bool
 rootCases ranks (var x) t = false
-rootCases ranks (app f ss) (var y) = false
-rootCases ranks (app f ss) (app g ts) =
-    above ranks f g && everyArg (exceeds ranks (app f ss)) ts || eqb f g && decreaseAt (exceeds ranks) (app f ss) ss ts
+rootCases ranks (app f ss) t = case1Holds (exceeds ranks) f ss t || case2Holds (above ranks) (exceeds ranks) f ss t
 
 -- C agrees with the order at this pair of subterms.
 abbrev pub AgreesAt : Setting → Assignment → (ranks : List ℕ) (s t : Numbered) → Type 0
@@ -116,7 +114,7 @@ module _ (c : Setting) (α : Assignment) (ranks arities : List ℕ)
       (u v : ℕ) (s t : Term) → T (over arities s) → T (over arities t) →
       AgreesBelow c α ranks (record { node = u; term = s }) (record { node = v; term = t }) →
       everyTrue α (partsOfD c u v s t) ≡ rootCases ranks s t
-  unfolding everyTrue partsOfD rootCases argumentsAt
+  unfolding everyTrue partsOfD rootCases case1Holds case2Holds argumentsAt
   root-at u v (var x) t os ot agree = refl
   root-at u v (app f ss) (var y) os ot agree = refl
   root-at u v (app f ss) (app g ts) os ot agree = go (eqb f g) refl
@@ -125,13 +123,13 @@ module _ (c : Setting) (α : Assignment) (ranks arities : List ℕ)
       go true e =
           let lengths : count ss ≡ count ts = sym (arity-many arities f ss os) ∙ ap (λ (h : ℕ). getD arities h 0) (eqb-true f g e) ∙ arity-many arities g ts ot in
           rw (partsOfD, e, not-above-itself ranks f g (eqb-true f g e))
-          (behind-mirrored c α ranks (record { node = u; term = app f ss }) (suc u) (suc v) ss ts lengths (agree .wholeWithArgument) (agree .argumentWithArgument))
+          (behind-mirrored c α ranks (record { node = u; term = app f ss }) (suc u) (suc v) ss ts lengths (agree .wholeWithArgument) (agree .argumentWithArgument)
+          ∙ sym (or-false (decreaseAt (exceeds ranks) (app f ss) ss ts)))
       go false e =
           rw (partsOfD, e)
           (every-mirrored c α ranks (record { node = u; term = app f ss }) (G (c .n) (c .k) f g (c .k)) (suc v) ts (agree .wholeWithArgument)
           ∙ ap (λ (b : Bool). b && everyArg (exceeds ranks (app f ss)) ts)
-          (compared f g (declared arities f ss os) (declared arities g ts ot) (eqb-false f g e))
-          ∙ sym (or-false (above ranks f g && everyArg (exceeds ranks (app f ss)) ts)))
+          (compared f g (declared arities f ss os) (declared arities g ts ot) (eqb-false f g e)))
 
   pub root-mirrored :
       (s t : Numbered) → T (over arities (s .term)) → T (over arities (t .term)) → AgreesBelow c α ranks s t →
@@ -154,14 +152,8 @@ reaches-apart ranks t (cons s ss) =
     regroup false false d e = refl
 
 at-root : (ranks : List ℕ) (f : ℕ) (ss : Args) (t : Term) → exceeds ranks (app f ss) t ≡ (someArg (reaches (exceeds ranks) t) ss || rootCases ranks (app f ss) t)
-unfolding atRoot rootCases
-at-root ranks f ss (var y) = exceeds-root ranks f ss (var y) ∙ sym (or-false (someArg (reaches (exceeds ranks) (var y)) ss))
-at-root ranks f ss (app g ts) =
-    exceeds-root ranks f ss (app g ts)
-    ∙ or-assoc
-    (someArg (reaches (exceeds ranks) (app g ts)) ss)
-    (above ranks f g && everyArg (exceeds ranks (app f ss)) ts)
-    (eqb f g && decreaseAt (exceeds ranks) (app f ss) ss ts)
+unfolding atRoot case3Holds rootCases
+at-root ranks f ss t = exceeds-root ranks f ss t ∙ or-comm (rootCases ranks (app f ss) t) (someArg (reaches (exceeds ranks) t) ss)
 
 module _ (c : Setting) (α : Assignment) (ranks : List ℕ) where
   some-mirrored :

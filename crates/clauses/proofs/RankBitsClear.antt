@@ -12,9 +12,10 @@ use Rattle.term.specs.Term.{size, over}
 use Rattle.book.specs.Book.{Book, Rule, symbols}
 use Rattle.book.specs.Limits.{WithinLimits}
 use Rattle.order.specs.Precedence.{Above, above}
+use Rattle.order.specs.Exceeds.{Exceeds}
 use Rattle.order.specs.Clearing.{Decreases, Clears}
 use Rattle.order.proofs.Decides.{exceeds-decides}
-use Rattle.order.proofs.Checked.{clears-none, clears-first}
+use Rattle.order.proofs.Checked.{all-none, all-first}
 use Rattle.clauses.specs.Cnf.{Assignment}
 use Rattle.clauses.specs.Numbering.{G, ranksOf}
 use Rattle.clauses.specs.Blocks.{Numbered, subterms, Setting, DAt}
@@ -49,7 +50,7 @@ module _ (c : Setting) (α : Assignment) (ranks arities : List ℕ)
       (λ a b ma mb (smaller : size (a .term) + size (b .term) < size (s .term) + size (t .term)). agreeing bound a b ma mb (omega arith))
       )
 
-  rule-decreases : Decreases (Above ranks) rule
+  rule-decreases : Decreases (Exceeds (Above ranks)) rule
   unfolding Decreases
   rule-decreases =
       let l : Numbered = record { node = 0; term = rule .left } in
@@ -63,9 +64,9 @@ module _ (n k : ℕ) (α : Assignment) (ranks arities : List ℕ)
   rules-clear :
       {base : ℕ} {rules : List Rule} → RulesEquations n k α base rules →
       ((rule : Rule) → List·Memᴰ rule rules → T (over arities (rule .left)) × T (over arities (rule .right))) → Clears (Above ranks) rules
-  rules-clear noRule sides = clears-none (Above ranks)
+  rules-clear noRule sides = all-none (Exceeds (Above ranks))
   rules-clear (andRule {base = base} {rule = rule} {rules = rules} first rest) sides =
-      clears-first (Above ranks) rule rules .1 (
+      all-first (Exceeds (Above ranks)) rule rules .1 (
         rule-decreases (record { n = n; k = k; base = base; width = size (rule .right) }) α ranks arities compared rule
             (sides rule (List·Memᴰ·head refl) .0) (sides rule (List·Memᴰ·head refl) .1) first,
         rules-clear rest (λ r m. sides r (List·Memᴰ·tail m)),

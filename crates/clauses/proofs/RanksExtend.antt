@@ -14,7 +14,7 @@ use Rattle.book.specs.Book.{Book, Rule, symbols}
 use Rattle.book.specs.Limits.{WithinLimits}
 use Rattle.order.specs.Precedence.{Above, above}
 use Rattle.order.specs.Test.{exceeds}
-use Rattle.order.specs.Clearing.{Decreases, Clears}
+use Rattle.order.specs.Clearing.{Decreases, AllDecrease, Clears}
 use Rattle.order.proofs.Decides.{exceeds-decides}
 use Rattle.clauses.specs.Numbering.{G, firstBase, baseAfter, C, D}
 use Rattle.clauses.specs.Blocks.{Numbered, subterms, Setting, CAt, DAt}
@@ -81,7 +81,7 @@ module _
       (base : ℕ) (rules : List Rule) → ((v : ℕ) → base < v → assigned book ranks v ≡ ofRules ranks base rules v) →
       ((rule : Rule) → List·Memᴰ rule rules → List·Memᴰ rule (book .rules)) →
       RulesEquations (symbols book) (rankBits (symbols book)) (assigned book ranks) base rules
-  unfolding CAt DAt C D baseAfter symbols Clears Decreases
+  unfolding CAt DAt C D baseAfter symbols AllDecrease Decreases
   rules-hold base [] values listed = noRule
   rules-hold base (rule ∷ rules) values listed =
       andRule (record { decreases = decreasing; nodes = nodes })

@@ -133,14 +133,14 @@ block-only book number room =
     after (more _ tt (book-only book)) (λ b. after (more _ tt (numbered-only _)) (λ bytes. test _ _ tt result))
 
 -- Checking ranks.
-decrease-only : (ranks : Bytes) (number : ℕ) (rules : List Rule) → Only (8 ∷ []) (allDecrease ranks number rules)
+decrease-only : (exceeds : Term → Term → Bool) (number : ℕ) (rules : List Rule) → Only (8 ∷ []) (allDecrease exceeds number rules)
 unfolding allDecrease
-decrease-only ranks number [] = result
-decrease-only ranks number (rule ∷ rules) = test _ _ tt (decrease-only ranks (suc number) rules)
+decrease-only exceeds number [] = result
+decrease-only exceeds number (rule ∷ rules) = test _ _ tt (decrease-only exceeds (suc number) rules)
 
 clear-only : (book : Book) (ranks : Bytes) → Only (7 ∷ 8 ∷ []) (ranksClear book ranks)
 unfolding ranksClear
-clear-only book ranks = test _ _ tt (more _ tt (decrease-only ranks 0 (book .rules)))
+clear-only book ranks = test _ _ tt (more _ tt (decrease-only _ 0 (book .rules)))
 
 check-only : (book ranks : Bytes) → Only (1 ∷ 2 ∷ 3 ∷ 4 ∷ 5 ∷ 6 ∷ 7 ∷ 8 ∷ []) (checkRanks book ranks)
 unfolding checkRanks

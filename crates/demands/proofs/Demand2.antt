@@ -20,7 +20,7 @@ use Rattle.book.proofs.Limits.{read-within-limits}
 use Rattle.order.specs.Precedence.{StrictPrecedence, Above}
 use Rattle.order.specs.Clearing.{Clears, ranksClear}
 use Rattle.order.proofs.Checked.{ranks-clear-exactly, accepted-exactly}
-use Rattle.order.proofs.RanksOfPrecedence.{ranks-strict}
+use Rattle.order.proofs.RanksStrict.{ranks-strict}
 use Rattle.clauses.specs.Cnf.{Cnf, Assignment, Satisfies, allHold}
 use Rattle.clauses.specs.Numbering.{ranksOf}
 use Rattle.clauses.specs.Blocks.{blocks, «V»}

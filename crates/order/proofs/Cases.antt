@@ -27,6 +27,6 @@ as-many-ranks-as-symbols : checkRanks fx-to-gx (1 ∷ 0 ∷ 0 ∷ []) ≡ refuse
 unfolding computing
 as-many-ranks-as-symbols = refl
 
-the-lowest-rule-that-fails : checkRanks undoing (1 ∷ 0 ∷ []) ≡ refused (8 at 1)
+the-lowest-rule-that-fails : checkRanks undoing (0 ∷ 0 ∷ []) ≡ refused (8 at 0)
 unfolding computing
 the-lowest-rule-that-fails = refl

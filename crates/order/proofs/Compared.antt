@@ -10,14 +10,14 @@ use lib.ListN.{length, getD}
 use Rattle.term.specs.Term.{Term, Args, app, nil, cons, size, sizes, count}
 use Rattle.term.specs.At.{At, ArgsAt, Standing, variableAt, symbolAt}
 use Rattle.term.proofs.At.{at-unique, args-unique, at-end, at-within, args-count, args-first, args-none, sizes-count}
+use Rattle.book.specs.Standing.{SideStands}
 use Rattle.order.specs.Test.{everyArg, someArg, decreaseAt, reaches, exceeds}
 use Rattle.order.specs.Compared.{rootOf, SideAt, ArgumentsAt, ExceedsAt, SomeReachesAt, ExceedsEveryAt, DecreasesAt}
-use Rattle.order.specs.Standing.{SideIs}
 use Rattle.order.specs.declared.compare.Root.the-variants.{Symbol}
 
 module _ {bytes arities : List ℕ} where
-  pub side-at : {u n : ℕ} {t : Term} → SideIs bytes arities u n t → SideAt bytes arities u n
-  side-at {t = t} side = record { term = t; behind = side .behind; stands = side .stands; counted = side .counted }
+  pub side-at : {u n : ℕ} {t : Term} → SideStands bytes arities u n t → SideAt bytes arities u n
+  side-at {u} {n} {t} side = record { term = t; behind = u + 2 * n; stands = side .stands; counted = side .counted }
 
   pub standing : {u n : ℕ} → SideAt bytes arities u n → Standing bytes arities u
   standing side = record { term = side .term; behind = side .behind; stands = side .stands }

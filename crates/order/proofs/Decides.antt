@@ -13,22 +13,12 @@ use Rattle.reply.proofs.Tests.{and-left, and-right, and-both, or-cases, or-left
 use Rattle.term.proofs.Same.{same→identical, same-refl}
 use Rattle.order.specs.Precedence.{Above, above}
 use Rattle.order.specs.Exceeds.{Exceeds, DecreaseAt, ExceedsEvery, SomeReaches, case1, case2, case3, here, further, none, both, identical, exceeding, later}
-use Rattle.order.specs.Test.{everyArg, someArg, decreaseAt, reaches, atRoot, exceedsIn, exceeds}
+use Rattle.order.specs.Test.{everyArg, someArg, decreaseAt, reaches, case1Holds, case2Holds, case3Holds, atRoot, exceedsIn, exceeds}
 
 size-positive : (t : Term) → 1 ≤ size t
 unfolding size
 size-positive (var x) = omega arith
 size-positive (app f ts) = omega arith
-
--- The three cases of the test at f(ss) and g(ts).
-abbrev by1 : (test : Term → Term → Bool) (f : ℕ) (ss : Args) (g : ℕ) (ts : Args) → Bool
-by1 test f ss g ts = eqb f g && decreaseAt test (app f ss) ss ts
-
-abbrev by2 : (higher : ℕ → ℕ → Bool) (test : Term → Term → Bool) (f : ℕ) (ss : Args) (g : ℕ) (ts : Args) → Bool
-by2 higher test f ss g ts = higher f g && everyArg (test (app f ss)) ts
-
-abbrev by3 : (test : Term → Term → Bool) (ss : Args) (g : ℕ) (ts : Args) → Bool
-by3 test ss g ts = someArg (reaches test (app g ts)) ss
 
 -- What the test finds at a root is so, if what `test` finds is.
 module _ (rel : ℕ → ℕ → Type 0) (test : Term → Term → Bool) (sound : (s t : Term) → T (test s t) → Exceeds rel s t) where
@@ -73,26 +63,53 @@ module _ (rel : ℕ → ℕ → Type 0) (test : Term → Term → Bool) (sound :
       at-later : T (same a b) → DecreaseAt rel s ss ts → DecreaseAt rel s (cons a ss) (cons b ts)
       at-later i d = subst (λ (u : Term). DecreaseAt rel s (cons a ss) (cons u ts)) (same→identical a b i) (further d)
 
+  -- Each case's test gives that case.
+  case1-sound : (f : ℕ) (ss : Args) (t : Term) → T (case1Holds test f ss t) → Exceeds rel (app f ss) t
+  unfolding case1Holds
+  case1-sound f ss (app g ts) h =
+      subst (λ (k : ℕ). Exceeds rel (app f ss) (app k ts)) (eqb→eq f g (and-left (eqb f g) (decreaseAt test (app f ss) ss ts) h))
+      (case1 (decrease-sound (app f ss) ss ts (and-right (eqb f g) (decreaseAt test (app f ss) ss ts) h)))
+
+  case2-sound :
+      (higher : ℕ → ℕ → Bool) → ((f g : ℕ) → T (higher f g) → rel f g) → (f : ℕ) (ss : Args) (t : Term) → T (case2Holds higher test f ss t) →
+      Exceeds rel (app f ss) t
+  unfolding case2Holds
+  case2-sound higher sound-higher f ss (app g ts) h =
+      case2 (sound-higher f g (and-left (higher f g) (everyArg (test (app f ss)) ts) h))
+      (every-sound (app f ss) ts (and-right (higher f g) (everyArg (test (app f ss)) ts) h))
+
+  case3-sound : (f : ℕ) (ss : Args) (t : Term) → T (case3Holds test ss t) → Exceeds rel (app f ss) t
+  unfolding case3Holds
+  case3-sound f ss t h = case3 (some-sound ss t h)
+
   root-sound :
       (higher : ℕ → ℕ → Bool) → ((f g : ℕ) → T (higher f g) → rel f g) → (f : ℕ) (ss : Args) (t : Term) → T (atRoot higher test f ss t) →
       Exceeds rel (app f ss) t
   unfolding atRoot
-  root-sound higher sound-higher f ss (var y) h = case3 (some-sound ss (var y) h)
-  root-sound higher sound-higher f ss (app g ts) h =
-      or-cases (by3 test ss g ts || by2 higher test f ss g ts) (by1 test f ss g ts) h first-two in1
-    where
-      in1 : T (by1 test f ss g ts) → Exceeds rel (app f ss) (app g ts)
-      in1 b =
-          subst (λ (k : ℕ). Exceeds rel (app f ss) (app k ts)) (eqb→eq f g (and-left (eqb f g) (decreaseAt test (app f ss) ss ts) b))
-          (case1 (decrease-sound (app f ss) ss ts (and-right (eqb f g) (decreaseAt test (app f ss) ss ts) b)))
+  root-sound higher sound-higher f ss t h =
+      or-cases (case1Holds test f ss t || case2Holds higher test f ss t) (case3Holds test ss t) h
+      (λ first-two.
+      or-cases (case1Holds test f ss t) (case2Holds higher test f ss t) first-two
+      (case1-sound f ss t) (case2-sound higher sound-higher f ss t))
+      (case3-sound f ss t)
 
-      in2 : T (by2 higher test f ss g ts) → Exceeds rel (app f ss) (app g ts)
-      in2 b =
-          case2 (sound-higher f g (and-left (higher f g) (everyArg (test (app f ss)) ts) b))
-          (every-sound (app f ss) ts (and-right (higher f g) (everyArg (test (app f ss)) ts) b))
+-- One of the three cases is enough.
+module _ (test : Term → Term → Bool) (higher : ℕ → ℕ → Bool) (f : ℕ) (ss : Args) (t : Term) where
+  by-case1 : T (case1Holds test f ss t) → T (atRoot higher test f ss t)
+  unfolding atRoot
+  by-case1 h =
+      or-left (case1Holds test f ss t || case2Holds higher test f ss t) (case3Holds test ss t)
+      (or-left (case1Holds test f ss t) (case2Holds higher test f ss t) h)
 
-      first-two : T (by3 test ss g ts || by2 higher test f ss g ts) → Exceeds rel (app f ss) (app g ts)
-      first-two b = or-cases (by3 test ss g ts) (by2 higher test f ss g ts) b (λ b3. case3 (some-sound ss (app g ts) b3)) in2
+  by-case2 : T (case2Holds higher test f ss t) → T (atRoot higher test f ss t)
+  unfolding atRoot
+  by-case2 h =
+      or-left (case1Holds test f ss t || case2Holds higher test f ss t) (case3Holds test ss t)
+      (or-right (case1Holds test f ss t) (case2Holds higher test f ss t) h)
+
+  by-case3 : T (case3Holds test ss t) → T (atRoot higher test f ss t)
+  unfolding atRoot
+  by-case3 h = or-right (case1Holds test f ss t || case2Holds higher test f ss t) (case3Holds test ss t) h
 
 -- What is so at a root the test finds, if `test` finds what is so of terms whose sizes are together at most `bound`.
 module _
@@ -130,18 +147,14 @@ module _
   root-complete :
       (higher : ℕ → ℕ → Bool) → ((f g : ℕ) → rel f g → T (higher f g)) → (f : ℕ) (ss : Args) (t : Term) → size (app f ss) + size t ≤ suc bound →
       Exceeds rel (app f ss) t → T (atRoot higher test f ss t)
-  unfolding atRoot size
-  root-complete higher complete-higher f ss (var y) fits (case3 r) = some-complete ss (var y) (omega arith) r
+  unfolding case1Holds case2Holds case3Holds size
   root-complete higher complete-higher f ss (app g ts) fits (case1 d) =
-      or-right (by3 test ss g ts || by2 higher test f ss g ts) (by1 test f ss g ts)
+      by-case1 test higher f ss (app g ts)
       (and-both (eqb f g) (decreaseAt test (app f ss) ss ts) (eqb-refl f) (decrease-complete (app f ss) ss ts (omega arith) (omega arith) d))
   root-complete higher complete-higher f ss (app g ts) fits (case2 a es) =
-      let in2 : T (by2 higher test f ss g ts) =
-      and-both (higher f g) (everyArg (test (app f ss)) ts) (complete-higher f g a) (every-complete (app f ss) ts (omega arith) es) in
-      or-left (by3 test ss g ts || by2 higher test f ss g ts) (by1 test f ss g ts) (or-right (by3 test ss g ts) (by2 higher test f ss g ts) in2)
-  root-complete higher complete-higher f ss (app g ts) fits (case3 r) =
-      let in3 : T (by3 test ss g ts) = some-complete ss (app g ts) (omega arith) r in
-      or-left (by3 test ss g ts || by2 higher test f ss g ts) (by1 test f ss g ts) (or-left (by3 test ss g ts) (by2 higher test f ss g ts) in3)
+      by-case2 test higher f ss (app g ts)
+      (and-both (higher f g) (everyArg (test (app f ss)) ts) (complete-higher f g a) (every-complete (app f ss) ts (omega arith) es))
+  root-complete higher complete-higher f ss t fits (case3 r) = by-case3 test higher f ss t (some-complete ss t (omega arith) r)
 
 -- Every fuel that is enough decides the relation.
 module _ (rel : ℕ → ℕ → Type 0) (higher : ℕ → ℕ → Bool) (decided : (f g : ℕ) → T (higher f g) ↔ rel f g) where

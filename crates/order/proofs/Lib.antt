@@ -13,7 +13,6 @@ pub mod PathOrder
 pub mod Among
 pub mod Stepwise
 pub mod Compared
-pub mod Standing
 pub mod Lowest
 pub mod Filled
 pub mod SameRanks

@@ -1,7 +1,7 @@
 -- The order's test one case and one argument at a time, each stopping at once: what decides it, and what is left to ask otherwise.
 -- That an identical argument does not exceed, and that a symbol is not above itself, is what lets it stop. Assumes nothing.
 use Prim.Native.Nat.{ℕ}
-use mathlib.Core.Bool.{Bool, true, false, _&&_, _||_}
+use mathlib.Core.Bool.{Bool, true, false, _&&_, _||_, or-false, or-true}
 use mathlib.Core.List.{List}
 use mathlib.Core.Path.{_≡_, refl, sym, ap, subst, _∙_}
 use native.Mathlib.Omega.{arith}
@@ -11,7 +11,7 @@ use borrow.Author.Tests.{eq-eqb, ne-eqb}
 use Rattle.term.specs.Term.{Term, Args, var, app, nil, cons, count, same}
 use Rattle.term.proofs.Same.{same→identical}
 use Rattle.order.specs.Precedence.{Above, above}
-use Rattle.order.specs.Test.{everyArg, someArg, decreaseAt, reaches, atRoot, exceeds}
+use Rattle.order.specs.Test.{everyArg, someArg, decreaseAt, reaches, case1Holds, case2Holds, case3Holds, atRoot, exceeds}
 use Rattle.order.specs.Compared.{rootOf}
 use Rattle.order.specs.declared.compare.Root.the-variants.{Variable}
 use Rattle.order.proofs.Decides.{above-decides, exceeds-decides, exceeds-root, exceeds-var}
@@ -113,32 +113,30 @@ module _ (ranks : List ℕ) where
     at-left t = ap (λ (u : Term). exceeds ranks u t) left ∙ exceeds-root ranks f ss t
 
     pub root-reaches : (t : Term) → someArg (reaches (exceeds ranks) t) ss ≡ true → exceeds ranks s t ≡ true
-    unfolding atRoot
-    root-reaches (var y) e = at-left (var y) ∙ e
-    root-reaches (app g ts) e = at-left (app g ts) ∙ rw e
+    unfolding atRoot case3Holds
+    root-reaches t e =
+        at-left t ∙ rw e (or-true (case1Holds (exceeds ranks) f ss t || case2Holds (above ranks) (exceeds ranks) f ss t))
 
     pub root-variable : (t : Term) → rootOf t ≡ Variable → someArg (reaches (exceeds ranks) t) ss ≡ false → exceeds ranks s t ≡ false
-    unfolding atRoot
+    unfolding atRoot case1Holds case2Holds case3Holds
     root-variable (var y) v e = at-left (var y) ∙ e
     root-variable (app g ts) v e = let z : _≡_ {A = ℕ} 0 1 = cc in absurd (omega arith)
 
     module _ {t : Term} {g : ℕ} {ts : Args} (right : t ≡ app g ts) (e : someArg (reaches (exceeds ranks) t) ss ≡ false) where
       two-roots :
-          exceeds ranks s t ≡ (above ranks f g && everyArg (exceeds ranks s) ts || eqb f g && decreaseAt (exceeds ranks) s ss ts)
-      unfolding atRoot
+          exceeds ranks s t ≡ (eqb f g && decreaseAt (exceeds ranks) s ss ts || above ranks f g && everyArg (exceeds ranks s) ts)
+      unfolding atRoot case1Holds case2Holds case3Holds
       two-roots =
           let none : someArg (reaches (exceeds ranks) (app g ts)) ss ≡ false = rw right at e in
-          at-left t ∙ rw (right, left, atRoot, none)
+          at-left t
+          ∙ rw (right, left, atRoot, none)
+          (or-false (eqb f g && decreaseAt (exceeds ranks) (app f ss) ss ts || above ranks f g && everyArg (exceeds ranks (app f ss)) ts))
 
       pub root-above : above ranks f g ≡ true → exceeds ranks s t ≡ everyArg (exceeds ranks s) ts
-      root-above h = two-roots ∙ rw (h, ne-eqb f g (above-another f g h)) (bare (everyArg (exceeds ranks s) ts))
-        where
-          bare : (x : Bool) → x || false ≡ x
-          bare true = refl
-          bare false = refl
+      root-above h = two-roots ∙ rw (h, ne-eqb f g (above-another f g h))
 
       pub root-equal : above ranks f g ≡ false → f ≡ g → exceeds ranks s t ≡ decreaseAt (exceeds ranks) s ss ts
-      root-equal h p = two-roots ∙ rw (h, eq-eqb f g p)
+      root-equal h p = two-roots ∙ rw (h, eq-eqb f g p) (or-false (decreaseAt (exceeds ranks) s ss ts))
 
       pub root-fails : above ranks f g ≡ false → (f ≡ g → ⊥) → exceeds ranks s t ≡ false
       root-fails h p = two-roots ∙ rw (h, ne-eqb f g p)

@@ -3,7 +3,7 @@ use Prim.Native.Nat.{ℕ, _≤_}
 use mathlib.Core.Bool.{Bool}
 use mathlib.Core.List.{List}
 use mathlib.Core.Path.{_≡_}
-use Rattle.term.specs.Term.{Term, Args, var, app, size, sizes, count}
+use Rattle.term.specs.Term.{Term, Args, var, app, size, sizes, count, same}
 use Rattle.term.specs.At.{At, ArgsAt}
 use Rattle.order.specs.declared.compare.Root.{Root}
 use Rattle.order.specs.declared.compare.Root.the-variants.{Variable, Symbol}
@@ -16,6 +16,10 @@ rootOf (app f ts) = Symbol f (count ts)
 
 abbrev pub RootAt : (bytes arities : List ℕ) (u : ℕ) → Root → Type 0
 RootAt bytes arities u r = (t : Term) (e : ℕ) → At bytes arities u t e → r ≡ rootOf t
+
+-- The answer is whether the terms that stand at two places are identical.
+abbrev pub SameAt : (bytes arities : List ℕ) (s t : ℕ) → Bool → Type 0
+SameAt bytes arities s t r = (a b : Term) (d e : ℕ) → At bytes arities s a d → At bytes arities t b e → r ≡ same a b
 
 -- A term of so many nodes stands at u.
 pub record SideAt (bytes arities : List ℕ) (u nodes : ℕ) : Type 0 where

@@ -1,10 +1,10 @@
 -- A key for computed cases: what opens it may compute with every definition of this crate and of those below.
 use Rattle.book.specs.Computing
 use Rattle.order.specs.Precedence.{Above, above}
-use Rattle.order.specs.Test.{everyArg, someArg, decreaseAt, reaches, atRoot, exceedsIn, exceeds}
+use Rattle.order.specs.Test.{everyArg, someArg, decreaseAt, reaches, case1Holds, case2Holds, case3Holds, atRoot, exceedsIn, exceeds}
 use Rattle.order.specs.Clearing.{Decreases, AllDecrease, decreases, allDecrease, ranksClear, checkRanks}
-use Rattle.order.specs.Meaning.{decreaseMeaning, refusalOnly, ranksMeaning}
+use Rattle.order.specs.Meaning.{ranksMeaning}
 
 unfoldable pub computing : Unit {0}
-unfolding Computing.computing Above above everyArg someArg decreaseAt reaches atRoot exceedsIn exceeds Decreases AllDecrease decreases allDecrease ranksClear checkRanks decreaseMeaning refusalOnly ranksMeaning
+unfolding Computing.computing Above above everyArg someArg decreaseAt reaches case1Holds case2Holds case3Holds atRoot exceedsIn exceeds Decreases AllDecrease decreases allDecrease ranksClear checkRanks ranksMeaning
 computing = tt

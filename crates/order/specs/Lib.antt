@@ -3,7 +3,6 @@ pub mod Exceeds
 pub mod Test
 pub mod Compared
 pub mod Clearing
-pub mod Standing
 pub mod SameRanks
 pub mod Meaning
 pub mod ReductionOrder

@@ -25,13 +25,23 @@ decreaseAt exceeds s (cons a ss) (cons b ts) =
 unfoldable pub reaches : (exceeds : Term → Term → Bool) (t s : Term) → Bool
 reaches exceeds t s = same s t || exceeds s t
 
--- The three cases at s = f(ss), `exceeds` being the test for smaller terms.
+-- (1) t = f(t1..tm); for some i the arguments before i are identical, si exceeds ti, and s exceeds every tj with j > i
+unfoldable pub case1Holds : (exceeds : Term → Term → Bool) (f : ℕ) (ss : Args) → Term → Bool
+case1Holds exceeds f ss (var y) = false
+case1Holds exceeds f ss (app g ts) = eqb f g && decreaseAt exceeds (app f ss) ss ts
+
+-- (2) t = g(t1..tn), f above g, and s exceeds every tj
+unfoldable pub case2Holds : (above : ℕ → ℕ → Bool) (exceeds : Term → Term → Bool) (f : ℕ) (ss : Args) → Term → Bool
+case2Holds above exceeds f ss (var y) = false
+case2Holds above exceeds f ss (app g ts) = above f g && everyArg (exceeds (app f ss)) ts
+
+-- (3) some si is identical to t or exceeds t
+unfoldable pub case3Holds : (exceeds : Term → Term → Bool) (ss : Args) → Term → Bool
+case3Holds exceeds ss t = someArg (reaches exceeds t) ss
+
+-- "s = f(s1..sm) and one of these holds", `exceeds` being the test for smaller terms.
 unfoldable pub atRoot : (above : ℕ → ℕ → Bool) (exceeds : Term → Term → Bool) (f : ℕ) (ss : Args) → Term → Bool
-atRoot above exceeds f ss (var y) = someArg (reaches exceeds (var y)) ss
-atRoot above exceeds f ss (app g ts) =
-    someArg (reaches exceeds (app g ts)) ss
-    || above f g && everyArg (exceeds (app f ss)) ts
-    || eqb f g && decreaseAt exceeds (app f ss) ss ts
+atRoot above exceeds f ss t = case1Holds exceeds f ss t || case2Holds above exceeds f ss t || case3Holds exceeds ss t
 
 -- The sizes of both sides together fall, so their sum is fuel enough.
 unfoldable pub exceedsIn : (fuel : ℕ) (above : ℕ → ℕ → Bool) → Term → Term → Bool

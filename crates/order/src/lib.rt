@@ -3,36 +3,33 @@ mod compare;
 
 use book::Book;
 use book::BookVerdict;
+use reply::Refusal;
 ghost use mathlib.Core.Path.{_≡_};
 ghost use Prim.Native.Nat.{_≤_};
 ghost use lib.ListN.{length};
 ghost use Rattle.book.specs.Meaning.{bookAt};
+ghost use Rattle.book.specs.WasRead.{ReadFrom};
 ghost use Rattle.order.specs.Test.{exceeds};
 ghost use Rattle.order.specs.Clearing.{allDecrease, ranksClear, checkRanks};
-ghost use Rattle.order.specs.Meaning.{decreaseMeaning, ranksMeaning};
+ghost use Rattle.order.specs.Meaning.{ranksMeaning};
 ghost use Rattle.order.specs.SameRanks.{SameRanks};
-ghost use Rattle.order.specs.Standing.{BookStands};
-
-// Whether every rule decreases, or the lowest that does not.
-pub enum Decrease {
-    Everywhere,
-    NotAt(usize),
-}
 
 // What the rank check answers: the ranks are accepted, or refused: by the book's own refusal, by 7 or by 8.
 pub enum RanksVerdict {
     Accepted,
-    Unreadable(BookVerdict),
-    WrongCount,
-    NotDecreasing(usize),
+    Refused(Refusal),
 }
 
-// The lowest rule that does not decrease, of a book that stands at its places in these bytes.
-pub fn first_not_decreasing(bytes: &[u8], book: Book, ranks: [u8; 16]) -> Decrease
-    requires { ⌜ BookStands (now bytes) book (bookAt (now bytes) book) ⌝ }
-    ensures { λ r. ⌜ decreaseMeaning r ≡ allDecrease (exceeds ranks) 0 ((bookAt (now (bytes .entry)) book) .rules) ⌝ }
+// Whether every rule decreases, of a book that was read from these bytes: 8 at the lowest that does not.
+pub fn first_not_decreasing(bytes: &[u8], book: Book, ranks: [u8; 16]) -> RanksVerdict
+    requires { ⌜ ReadFrom (now bytes) book ⌝ }
+    ensures { λ r. ⌜ ranksMeaning r ≡ allDecrease (exceeds ranks) 0 ((bookAt (now (bytes .entry)) book) .rules) ⌝ }
 {
     let arities = book.arities;
+    let symbols = compare::Symbols {
+        arities: arities,
+        ranks: ranks,
+    };
     let rules = book.rules;
     let mut rule = 0;
     while rule < rules {
@@ -40,12 +37,12 @@ pub fn first_not_decreasing(bytes: &[u8], book: Book, ranks: [u8; 16]) -> Decrea
         let s_nodes = book.left_nodes[rule];
         let t = book.right_at[rule];
         let t_nodes = book.right_nodes[rule];
-        if !compare::exceeds(bytes, arities, ranks, s, s_nodes, t, t_nodes) {
-            return Decrease::NotAt(rule);
+        if !compare::exceeds(bytes, symbols, s, s_nodes, t, t_nodes) {
+            return RanksVerdict::Refused(Refusal::NotDecreasing(rule));
         }
         rule += 1;
     }
-    Decrease::Everywhere
+    RanksVerdict::Accepted
 }
 
 // The ranks in a table of 16, 0 for a symbol that has none.
@@ -62,21 +59,17 @@ fn padded(ranks: &[u8]) -> [u8; 16]
     table
 }
 
-// "ranks 7, 8", of a book that stands at its places in these bytes.
+// "ranks 7, 8", of a book that was read from these bytes.
 pub fn ranks_clear(bytes: &[u8], book: Book, ranks: &[u8]) -> RanksVerdict
-    requires { ⌜ BookStands (now bytes) book (bookAt (now bytes) book) ⌝ }
+    requires { ⌜ ReadFrom (now bytes) book ⌝ }
     ensures { λ r. ⌜ ranksMeaning r ≡ ranksClear (bookAt (now (bytes .entry)) book) (now (ranks .entry)) ⌝ }
 {
     let symbols = book.symbols;
     if ranks.len() != symbols {
-        return RanksVerdict::WrongCount;
+        return RanksVerdict::Refused(Refusal::WrongRankCount);
     }
     let table = padded(ranks);
-    let found = first_not_decreasing(bytes, book, table);
-    match found {
-        Decrease::Everywhere => RanksVerdict::Accepted,
-        Decrease::NotAt(rule) => RanksVerdict::NotDecreasing(rule),
-    }
+    first_not_decreasing(bytes, book, table)
 }
 
 // Whether these ranks make every rule of the book decrease: the book's refusals 1 to 6, then 7, then 8 at the lowest rule.
@@ -85,9 +78,9 @@ pub fn check_ranks(book: &[u8], ranks: &[u8]) -> RanksVerdict
 {
     let read = book::read_book(book);
     let verdict = read.verdict;
-    let BookVerdict::Readable = verdict else {
-        return RanksVerdict::Unreadable(verdict);
-    };
+    if let BookVerdict::Refused(refusal) = verdict {
+        return RanksVerdict::Refused(refusal);
+    }
     let places = read.book;
     ranks_clear(book, places, ranks)
 }

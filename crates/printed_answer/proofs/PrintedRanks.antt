@@ -10,6 +10,7 @@ use Rattle.reply.proofs.Given.{given-bind, unless-given, given-unless}
 use Rattle.term.specs.Tables.{rankBits}
 use Rattle.book.specs.Book.{Book, symbols}
 use Rattle.book.specs.Reading.{readBook}
+use Rattle.order.specs.Test.{exceeds}
 use Rattle.order.specs.Clearing.{allDecrease, ranksClear}
 use Rattle.clauses.specs.Cnf.{Assignment}
 use Rattle.clauses.specs.Numbering.{ranksOf}
@@ -25,13 +26,13 @@ module _
     (clear : ranksClear book (ranksOf (symbols book) (rankBits (symbols book)) α) ≡ given tt)
     (fits : symbols book ≤ room)
   where
-    decrease : allDecrease (ranksOf (symbols book) (rankBits (symbols book)) α) 0 (book .rules) ≡ given tt
+    decrease : allDecrease (exceeds (ranksOf (symbols book) (rankBits (symbols book)) α)) 0 (book .rules) ≡ given tt
     unfolding ranksClear
     decrease = unless-given _ _ _ _ clear .1
 
     given-checked :
         (ranks : List ℕ) → ranks ≡ ranksOf (symbols book) (rankBits (symbols book)) α →
-        _>>_ (allDecrease ranks 0 (book .rules)) (given ranks) ≡ given (ranksOf (symbols book) (rankBits (symbols book)) α)
+        _>>_ (allDecrease (exceeds ranks) 0 (book .rules)) (given ranks) ≡ given (ranksOf (symbols book) (rankBits (symbols book)) α)
     unfolding _>>_
     given-checked ranks e = rw (e, decrease)
 

@@ -21,7 +21,7 @@ use Rattle.book.specs.Meaning.{told}
 use Rattle.book.specs.declared.Book.{Book as Places}
 use Rattle.book.specs.declared.BookVerdict.{BookVerdict}
 use Rattle.book.specs.declared.BookVerdict.the-variants.{Readable, Ended, UnknownKind, NotAllowed, BadBody, TooMany, AfterEnd}
-use Rattle.order.specs.Clearing.{Decreases, Clears, ranksClear}
+use Rattle.order.specs.Clearing.{Decreases, AllDecrease, ranksClear}
 use Rattle.order.specs.Meaning.{refusalOnly}
 use Rattle.order.specs.Standing.{SideIs, BookStands}
 use Rattle.order.proofs.Checked.{ranks-clear-exactly}
@@ -106,7 +106,7 @@ side-to-end {bytes} {arities} {u} {nodes} {t} side =
 pub rules-stand :
     {bytes : List ℕ} {places : Places} {book : Book} (ranks : List ℕ) → BookStands bytes places book → WithinLimits book →
     ranksClear book ranks ≡ given tt → RulesAt bytes places (book .rules)
-unfolding Clears Decreases
+unfolding AllDecrease Decreases
 rules-stand {bytes} {places} {book} ranks stands limits cleared = record {
   counted = stands .ruleCount;
   few = limits .ruleCount;

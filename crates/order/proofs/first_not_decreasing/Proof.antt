@@ -6,12 +6,14 @@ use native.Mathlib.Omega.{arith}
 use borrow.Author.Needs.{needs}
 use borrow.Author.Tests.{not-true, not-false}
 use lib.ListN.{getD}
+use Rattle.reply.specs.Refusals.{numbered}
 use Rattle.term.specs.Term.{var}
 use Rattle.book.specs.Book.{Rule}
 use Rattle.book.specs.Meaning.{bookAt}
+use Rattle.book.proofs.WasRead.{read-stands}
 use Rattle.order.specs.Test.{exceeds}
 use Rattle.order.specs.Clearing.{decreases, allDecrease}
-use Rattle.order.specs.Meaning.{decreaseMeaning}
+use Rattle.order.specs.Meaning.{ranksMeaning}
 use Rattle.order.proofs.Compared.{side-at}
 use Rattle.order.proofs.Lowest.{from, all-from-first, decreases-here, fails-here, none-left}
 use Rattle.order.proofs.first_not_decreasing.Statement.{statement}
@@ -22,16 +24,16 @@ other : Rule
 other = record { left = var 0; right = var 0 }
 
 abbrev Inv-loop : tie.InvT-loop
-Inv-loop bytes ranks book arities rules rule₀ rule =
-    (rule ≤ rules) × (from (exceeds ranks) ((bookAt bytes book) .rules) other rule ≡ allDecrease (exceeds ranks) 0 ((bookAt bytes book) .rules))
+Inv-loop bytes book symbols rules rule₀ rule =
+    (rules ≤ 32) × (rule ≤ rules) × (from (exceeds (symbols .ranks)) ((bookAt bytes book) .rules) other rule ≡ allDecrease (exceeds (symbols .ranks)) 0 ((bookAt bytes book) .rules))
 
 abbrev μ-loop : tie.MeasureT-loop
-μ-loop bytes ranks book arities rules rule₀ rule = rules - rule
+μ-loop bytes book symbols rules rule₀ rule = rules - rule
 
 loop-holds : tie.Need-loop-holds Inv-loop μ-loop
 loop-holds c =
     let start = c .before .before in
-    (omega arith, all-from-first (exceeds (start .args .ranks)) ((bookAt (start .args .bytes .now) (start .args .t2)) .rules) other)
+    (read-stands (start .pre) .fewRules, omega arith, all-from-first (exceeds (start .args .ranks)) ((bookAt (start .args .bytes .now) (start .args .t2)) .rules) other)
 
 mul-s : tie.Need-mul-s Inv-loop μ-loop
 mul-s c = search needs
@@ -59,7 +61,7 @@ element-copy-out-t-nodes c = search needs
 
 exceeds-requires : tie.Need-exceeds-requires Inv-loop μ-loop
 exceeds-requires c κs =
-    let stand = c .before .before .before .before .before .before .before .before .pre in
+    let stand = read-stands (c .before .before .before .before .before .before .before .before .pre) in
     let rule = c .before .before .before .before .before .loop .rule in
     let h = c .before .before .before .before .loop-test .taken in
     (side-at (stand .left rule other h), side-at (stand .right rule other h))
@@ -71,23 +73,23 @@ rule-decreases :
     decreases (exceeds (c .before .before .before .before .before .before .before .before .before .args .ranks)) (getD ((bookAt (c .before .before .before .before .before .before .before .before .before .args .bytes .now) (c .before .before .before .before .before .before .before .before .before .args .t2)) .rules) (c .before .before .before .before .before .before .loop .rule) other)
 unfolding decreases
 rule-decreases c =
-    let stand = c .before .before .before .before .before .before .before .before .before .pre in
+    let stand = read-stands (c .before .before .before .before .before .before .before .before .before .pre) in
     let rule = c .before .before .before .before .before .before .loop .rule in
     let left = stand .left rule other (c .before .before .before .before .before .loop-test .taken) in
     let right = stand .right rule other (c .before .before .before .before .before .loop-test .taken) in
-    c .exceeds .ensures _ _ (left .behind) (right .behind) (left .stands) (right .stands)
+    c .exceeds .ensures _ _ _ _ (left .stands) (right .stands)
 
 returns : tie.Need-returns Inv-loop μ-loop
-unfolding decreaseMeaning
+unfolding ranksMeaning numbered
 returns c =
     let start = c .before .before .before .before .before .before .before .before .before .before in
     let head = c .before .before .before .before .before .before .before .loop in
     let rules = (bookAt (start .args .bytes .now) (start .args .t2)) .rules in
     let fails = sym (rule-decreases (c .before)) ∙ not-true (c .before .exceeds .result) (c .if1 .taken) in
-    sym (fails-here (exceeds (start .args .ranks)) rules other (head .rule) (omega (arith, start .pre .ruleCount, c .before .before .before .before .before .before .loop-test .taken)) fails) ∙ head .inv .1
+    sym (fails-here (exceeds (start .args .ranks)) rules other (head .rule) (omega (arith, read-stands (start .pre) .ruleCount, c .before .before .before .before .before .before .loop-test .taken)) fails) ∙ head .inv .2
 
 add-rule : tie.Need-add-rule Inv-loop μ-loop
-add-rule c = omega (arith, c .before .before .before .before .before .before .before .before .before .before .pre .fewRules, c .before .before .before .before .before .before .loop-test .taken)
+add-rule c = omega (arith, read-stands (c .before .before .before .before .before .before .before .before .before .before .pre) .fewRules, c .before .before .before .before .before .before .loop-test .taken)
 
 loop-less : tie.Need-loop-less Inv-loop μ-loop
 loop-less c = omega (arith, c .before .before .before .before .before .before .loop-test .taken)
@@ -98,17 +100,18 @@ loop-again c =
     let head = c .before .before .before .before .before .before .before .loop in
     let rules = (bookAt (start .args .bytes .now) (start .args .t2)) .rules in
     let holds = sym (rule-decreases (c .before)) ∙ not-false (c .before .exceeds .result) (c .if1 .left) in (
+      head .inv .0,
       omega (arith, c .before .before .before .before .before .before .loop-test .taken),
-      sym (decreases-here (exceeds (start .args .ranks)) rules other (head .rule) (omega (arith, start .pre .ruleCount, c .before .before .before .before .before .before .loop-test .taken)) holds) ∙ head .inv .1,
+      sym (decreases-here (exceeds (start .args .ranks)) rules other (head .rule) (omega (arith, read-stands (start .pre) .ruleCount, c .before .before .before .before .before .before .loop-test .taken)) holds) ∙ head .inv .2,
     )
 
 returns-2 : tie.Need-returns-2 Inv-loop μ-loop
-unfolding decreaseMeaning
+unfolding ranksMeaning numbered
 returns-2 c =
     let start = c .before .before .before .before in
     let head = c .before .loop in
     let rules = (bookAt (start .args .bytes .now) (start .args .t2)) .rules in
-    sym (none-left (exceeds (start .args .ranks)) rules other (head .rule) (omega (arith, start .pre .ruleCount))) ∙ head .inv .1
+    sym (none-left (exceeds (start .args .ranks)) rules other (head .rule) (omega (arith, read-stands (start .pre) .ruleCount))) ∙ head .inv .2
 
 pub first-not-decreasing-spec : {M : Type 1} → statement M
 first-not-decreasing-spec =

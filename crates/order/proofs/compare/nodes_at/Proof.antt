@@ -10,7 +10,7 @@ end-of-requires c κs = search needs
 
 sub-result : tie.Need-sub-result
 sub-result c =
-    let s = c .before .before .pre in
+    let s = c .before .before .before .pre in
     omega (arith, c .end-of .ensures (s .term) (s .behind) (s .stands), at-end (s .stands))
 
 returns : tie.Need-returns

@@ -25,8 +25,8 @@ arguments-at-requires c κs = search needs
 
 returns : tie.Need-returns
 returns c t e h =
-    let root = symbol-root h (c .before .before .before .if1 .taken) in
-    let f = c .before .wide .ensures in
+    let root = symbol-root h (c .before .before .before .before .if1 .taken) in
+    let f = c .before .before .wide .ensures in
     let many = c .arguments-at .ensures t e h in
     cc (ap rootOf (root .symbol))
 

@@ -23,15 +23,15 @@ module _ (t : ℕ) where
   -- The first of the arguments of s, or of t, and the others.
   abbrev LeftParts : (start : Of lts.Start t) (n : ℕ) → Type 0
   LeftParts start n =
-      Parted (start .args .bytes .now) (start .args .arities) (start .args .many) (start .args .ss) (start .args .s-nodes) n (start .pre .1 .1 .terms)
+      Parted (start .args .bytes .now) (start .args .symbols .arities) (start .args .many) (start .args .ss) (start .args .s-nodes) n (start .pre .1 .1 .terms)
 
   abbrev RightParts : (start : Of lts.Start t) (n : ℕ) → Type 0
   RightParts start n =
-      Parted (start .args .bytes .now) (start .args .arities) (start .args .many) (start .args .ts) (start .args .ts-nodes) n (start .pre .1 .2 .terms)
+      Parted (start .args .bytes .now) (start .args .symbols .arities) (start .args .many) (start .args .ts) (start .args .ts-nodes) n (start .pre .1 .2 .terms)
 
   -- A term that stands where the arguments of s do.
   abbrev FirstIs : (start : Of lts.Start t) (a : Term) (e : ℕ) → Type 0
-  FirstIs start a e = At (start .args .bytes .now) (start .args .arities) (start .args .ss) a e
+  FirstIs start a e = At (start .args .bytes .now) (start .args .symbols .arities) (start .args .ss) a e
 
   -- Where the nodes of the first argument of t are counted.
   abbrev start-of : Of lts.After-nodes-at t → Of lts.Start t
@@ -67,7 +67,7 @@ module _ (t : ℕ) where
   first-exceeds :
       (c : Of lts.After-exceeds t) →
       c .exceeds .result ≡
-      exceeds (start-of (right-counted (c .before)) .args .ranks) (left-parts (c .before) .first .term) (right-parts (right-counted (c .before)) .first .term)
+      exceeds (start-of (right-counted (c .before)) .args .symbols .ranks) (left-parts (c .before) .first .term) (right-parts (right-counted (c .before)) .first .term)
   first-exceeds c =
       let a = left-parts (c .before) .first in
       let b = right-parts (right-counted (c .before)) .first in
@@ -77,8 +77,8 @@ module _ (t : ℕ) where
   returns c =
       let start = c .before .before in
       let (s, ss, ts) = start .pre .1 in
-      decreases-for-all (start .args .ranks) false s ss ts
-      (sym (decrease-none (start .args .ranks) (none-there ss (c .if1 .taken)) (s .term) (ts .terms)))
+      decreases-for-all (start .args .symbols .ranks) false s ss ts
+      (sym (decrease-none (start .args .symbols .ranks) (none-there ss (c .if1 .taken)) (s .term) (ts .terms)))
 
   nodes-at-requires : Of lts.Need-nodes-at-requires t
   nodes-at-requires c κs = first-standing (c .before .before .pre .1 .2) (c .if1 .left)
@@ -122,9 +122,9 @@ module _ (t : ℕ) where
       let b = q .others in
       let first = p .first in
       let identical = sym (first-same (c .before .before) (first .term) (first .behind) (first .stands)) ∙ c .before .if2 .taken in
-      decreases-for-all (start .args .ranks) (c .decreases-at .result) s ss ts
+      decreases-for-all (start .args .symbols .ranks) (c .decreases-at .result) s ss ts
       (c .decreases-at .ensures (s .term) (a .terms) (b .terms) (s .behind) (a .behind) (b .behind) (s .stands) (a .stand) (b .stand)
-      ∙ sym (decrease-later (start .args .ranks) (p .parts) (q .parts) (s .term) identical))
+      ∙ sym (decrease-later (start .args .symbols .ranks) (p .parts) (q .parts) (s .term) identical))
 
   nodes-at-requires-2 : Of lts.Need-nodes-at-requires-2 t
   nodes-at-requires-2 c κs = first-standing (start-of (c .before .before) .pre .1 .1) (c .before .before .before .if1 .left)
@@ -150,9 +150,9 @@ module _ (t : ℕ) where
       let b = q .others in
       let more = sym (first-exceeds (c .before .before)) ∙ c .before .if3 .taken in
       let counts = args-count (p .others .stand) ∙ sym (args-count (b .stand)) in
-      decreases-for-all (start .args .ranks) (c .exceeds-every .result) s ss ts
+      decreases-for-all (start .args .symbols .ranks) (c .exceeds-every .result) s ss ts
       (c .exceeds-every .ensures (s .term) (b .terms) (s .behind) (b .behind) (s .stands) (b .stand)
-      ∙ sym (decrease-here (start .args .ranks) (p .parts) (q .parts) (s .term) (differ (c .before .before .before)) more counts))
+      ∙ sym (decrease-here (start .args .symbols .ranks) (p .parts) (q .parts) (s .term) (differ (c .before .before .before)) more counts))
 
   returns-4 : Of lts.Need-returns-4 t
   returns-4 c =
@@ -161,8 +161,8 @@ module _ (t : ℕ) where
       let p = left-parts (c .before .before) in
       let q = right-parts (right-counted (c .before .before)) in
       let less = sym (first-exceeds (c .before)) ∙ c .if3 .left in
-      decreases-for-all (start .args .ranks) false s ss ts
-      (sym (decrease-fails (start .args .ranks) (p .parts) (q .parts) (s .term) (differ (c .before .before)) less))
+      decreases-for-all (start .args .symbols .ranks) false s ss ts
+      (sym (decrease-fails (start .args .symbols .ranks) (p .parts) (q .parts) (s .term) (differ (c .before .before)) less))
 
 pub met : {M : Type 1} (t : ℕ) → lts.Closed (decreases-at-calls t) (decreases-at-at t) reads.Post M
 met t = lts.spec (decreases-at-calls t) (decreases-at-at t) reads.Post (returns t) (nodes-at-requires t) (sub-later t) (mul-t-later t) (add-t-later t) (sub-t-left t) (same-at-requires t) (mul-s-later t) (add-s-later t) (decreases-at-requires t) (returns-2 t) (nodes-at-requires-2 t) (exceeds-requires t) (exceeds-every-requires t) (returns-3 t) (returns-4 t)

@@ -16,12 +16,12 @@ use Rattle.order.proofs.compare.+decreases_at+exceeds+exceeds_every+som
 use Rattle.order.proofs.compare.+decreases_at+exceeds+exceeds_every+some_reaches.Proof.Falling.{exceeds-every-at, exceeds-every-calls}
 
 abbrev Inv-loop : lts.InvT-loop
-Inv-loop bytes arities ranks s s-nodes many ts ts-nodes left₀ at₀ left at =
-    ArgumentsAt bytes arities left at ts-nodes ×
-    ((r : Bool) → ExceedsEveryAt bytes arities ranks s left at r → ExceedsEveryAt bytes arities ranks s many ts r)
+Inv-loop bytes symbols s s-nodes many ts ts-nodes left₀ at₀ left at =
+    ArgumentsAt bytes (symbols .arities) left at ts-nodes ×
+    ((r : Bool) → ExceedsEveryAt bytes (symbols .arities) (symbols .ranks) s left at r → ExceedsEveryAt bytes (symbols .arities) (symbols .ranks) s many ts r)
 
 abbrev μ-loop : lts.MeasureT-loop
-μ-loop bytes arities ranks s s-nodes many ts ts-nodes left₀ at₀ left at = left
+μ-loop bytes symbols s s-nodes many ts ts-nodes left₀ at₀ left at = left
 
 -- A place of the code, or what is asked there, at the number t.
 abbrev Of :
@@ -37,7 +37,7 @@ module _ (t : ℕ) where
   PartsOf c =
       let start = start-of c in
       let head = c .before .before .loop in
-      Parted (start .args .bytes .now) (start .args .arities) (head .left) (head .at) (start .args .ts-nodes) (c .nodes-at .result) (head .inv .0 .terms)
+      Parted (start .args .bytes .now) (start .args .symbols .arities) (head .left) (head .at) (start .args .ts-nodes) (c .nodes-at .result) (head .inv .0 .terms)
 
   parts-of : (c : Of lts.After-nodes-at t) → PartsOf c
   parts-of c = parted (c .nodes-at .result) (c .before .before .loop .inv .0) (c .before .loop-test .taken) (c .nodes-at .ensures)
@@ -45,7 +45,7 @@ module _ (t : ℕ) where
   -- Whether s exceeds it.
   first-exceeded :
       (c : Of lts.After-exceeds t) →
-      c .exceeds .result ≡ exceeds (start-of (c .before) .args .ranks) (start-of (c .before) .pre .1 .0 .term) (parts-of (c .before) .first .term)
+      c .exceeds .result ≡ exceeds (start-of (c .before) .args .symbols .ranks) (start-of (c .before) .pre .1 .0 .term) (parts-of (c .before) .first .term)
   first-exceeded c =
       let a = start-of (c .before) .pre .1 .0 in
       let b = parts-of (c .before) .first in
@@ -69,8 +69,8 @@ module _ (t : ℕ) where
       let s = start .pre .1 .0 in
       let less = sym (first-exceeded (c .before)) ∙ not-true (c .before .exceeds .result) (c .if1 .taken) in
       head .inv .1 false
-      (every-for-all (start .args .ranks) false s (head .inv .0)
-      (sym (every-fails (start .args .ranks) (parts-of (c .before .before) .parts) (s .term) less)))
+      (every-for-all (start .args .symbols .ranks) false s (head .inv .0)
+      (sym (every-fails (start .args .symbols .ranks) (parts-of (c .before .before) .parts) (s .term) less)))
 
   mul-at : Of lts.Need-mul-at t
   mul-at c = omega (arith, parts-of (c .before .before) .inside)
@@ -95,9 +95,9 @@ module _ (t : ℕ) where
         wider rest (omega arith),
         λ r h.
             head .inv .1 r
-            (every-for-all (start .args .ranks) r s (head .inv .0)
+            (every-for-all (start .args .symbols .ranks) r s (head .inv .0)
             (h (s .term) (rest .terms) (s .behind) (rest .behind) (s .stands) (rest .stand)
-            ∙ sym (every-later (start .args .ranks) (parts .parts) (s .term) more))),
+            ∙ sym (every-later (start .args .symbols .ranks) (parts .parts) (s .term) more))),
       )
 
   returns-2 : Of lts.Need-returns-2 t
@@ -106,8 +106,8 @@ module _ (t : ℕ) where
       let head = c .before .loop in
       let s = start .pre .1 .0 in
       head .inv .1 true
-      (every-for-all (start .args .ranks) true s (head .inv .0)
-      (sym (every-none (start .args .ranks) (none-there (head .inv .0) (c .loop-test .left)) (s .term))))
+      (every-for-all (start .args .symbols .ranks) true s (head .inv .0)
+      (sym (every-none (start .args .symbols .ranks) (none-there (head .inv .0) (c .loop-test .left)) (s .term))))
 
 pub met : {M : Type 1} (t : ℕ) → lts.Closed (exceeds-every-calls t) (exceeds-every-at t) reads.Post M
 met t = lts.spec (exceeds-every-calls t) (exceeds-every-at t) reads.Post Inv-loop μ-loop (loop-holds t) (nodes-at-requires t) (exceeds-requires t) (returns t) (mul-at t) (add-at t) (sub-left t) (loop-less t) (loop-again t) (returns-2 t)

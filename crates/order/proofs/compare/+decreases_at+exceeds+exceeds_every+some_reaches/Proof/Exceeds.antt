@@ -3,7 +3,7 @@ use Prim.Native.Nat.{ℕ}
 use mathlib.Core.Bool.{Bool, true, false}
 use mathlib.Core.Path.{_≡_, sym, ap, _∙_}
 use native.Mathlib.Omega.{arith}
-use lib.ListN.{getD}
+use lib.ListN.{length, length-map, getD}
 use borrow.Author.Needs.{needs}
 use borrow.Fn.Kinds.{In, Out}
 use Rattle.term.specs.Term.{Args}
@@ -23,15 +23,15 @@ module _ (t : ℕ) where
   -- s, or t, is a symbol with so many arguments.
   abbrev LeftIs : (start : Of lts.Start t) (f many : ℕ) → Type 0
   LeftIs start f many =
-      SymbolSide (start .args .bytes .now) (start .args .arities) (start .args .s) (start .args .s-nodes) f many (start .pre .1 .0 .term)
+      SymbolSide (start .args .bytes .now) (start .args .symbols .arities) (start .args .s) (start .args .s-nodes) f many (start .pre .1 .0 .term)
 
   abbrev RightIs : (start : Of lts.Start t) (g many : ℕ) → Type 0
   RightIs start g many =
-      SymbolSide (start .args .bytes .now) (start .args .arities) (start .args .t) (start .args .t-nodes) g many (start .pre .1 .1 .term)
+      SymbolSide (start .args .bytes .now) (start .args .symbols .arities) (start .args .t) (start .args .t-nodes) g many (start .pre .1 .1 .term)
 
   -- Whether some argument of s is identical to t or exceeds it.
   abbrev Reached : (start : Of lts.Start t) (ss : Args) (r : Bool) → Type 0
-  Reached start ss r = r ≡ someArg (reaches (exceeds (start .args .ranks)) (start .pre .1 .1 .term)) ss
+  Reached start ss r = r ≡ someArg (reaches (exceeds (start .args .symbols .ranks)) (start .pre .1 .1 .term)) ss
 
   -- Where the root of s is known: s is f(s1..sm).
   abbrev start-of : Of lts.After-known-told t → Of lts.Start t
@@ -65,7 +65,7 @@ module _ (t : ℕ) where
       (c : Of lts.After-known-told2 t) → left-known c .before .f .given .0 .0 ≡ c .before .g .given .0 .0 →
       c .before .g .given .0 .1 .0 ≡ left-known c .before .f .given .0 .1 .0
   alike c p =
-      let arities = start-of (left-known c) .args .arities in
+      let arities = start-of (left-known c) .args .symbols .arities in
       right c .arity ∙ ap (λ (f : ℕ). getD arities f 0) (sym p) ∙ sym (left (left-known c) .arity)
 
   root-at-requires : Of lts.Need-root-at-requires t
@@ -82,7 +82,7 @@ module _ (t : ℕ) where
       let start = c .before .before .before .before in
       let (s, t) = start .pre .1 in
       let root = sym (c .before .before .root-at .ensures (s .term) (s .behind) (s .stands)) ∙ c .enum-told .given .1 in
-      exceeds-for-all (start .args .ranks) false s t (sym (variable-exceeds-nothing (start .args .ranks) (s .term) (t .term) root))
+      exceeds-for-all (start .args .symbols .ranks) false s t (sym (variable-exceeds-nothing (start .args .symbols .ranks) (s .term) (t .term) root))
 
   add-some-reaches : Of lts.Need-add-some-reaches t
   add-some-reaches c = omega (arith, left c .inside)
@@ -99,8 +99,8 @@ module _ (t : ℕ) where
   returns-2 c =
       let start = start-of (c .before .before) in
       let (s, t) = start .pre .1 in
-      exceeds-for-all (start .args .ranks) true s t
-      (sym (root-reaches (start .args .ranks) (left (c .before .before) .root) (t .term) (sym (reached (c .before)) ∙ c .if1 .taken)))
+      exceeds-for-all (start .args .symbols .ranks) true s t
+      (sym (root-reaches (start .args .symbols .ranks) (left (c .before .before) .root) (t .term) (sym (reached (c .before)) ∙ c .if1 .taken)))
 
   root-at-requires-2 : Of lts.Need-root-at-requires-2 t
   root-at-requires-2 c κs = standing (start-of (c .before .before) .pre .1 .1)
@@ -116,12 +116,13 @@ module _ (t : ℕ) where
       let start = start-of (c .before .before .before .before .before) in
       let (s, t) = start .pre .1 in
       let root = sym (c .before .before .root-at2 .ensures (t .term) (t .behind) (t .stands)) ∙ c .enum-told2 .given .1 in
-      exceeds-for-all (start .args .ranks) false s t
-      (sym (root-variable (start .args .ranks) (left (c .before .before .before .before .before) .root) (t .term) root (sym (reached (c .before .before .before .before)) ∙ c .before .before .before .if1 .left)))
+      exceeds-for-all (start .args .symbols .ranks) false s t
+      (sym (root-variable (start .args .symbols .ranks) (left (c .before .before .before .before .before) .root) (t .term) root (sym (reached (c .before .before .before .before)) ∙ c .before .before .before .if1 .left)))
 
   higher-requires : Of lts.Need-higher-requires t
   higher-requires c κs =
-      let sixteen = start-of (left-known c) .good .1 .0 .1 .0 .1 in
+      let start = start-of (left-known c) in
+      let sixteen : length (start .args .symbols .arities) ≡ 16 = sym (length-map (start .args .symbols .arities) _) ∙ start .good .1 .0 .1 .1 .0 .1 .0 .1 in
       omega (arith, left (left-known c) .declared, right c .declared)
 
   add-exceeds-every : Of lts.Need-add-exceeds-every t
@@ -142,9 +143,9 @@ module _ (t : ℕ) where
       let (s, t) = start .pre .1 in
       let ts = right known .under in
       let above = sym (c .before .before .higher .ensures) ∙ c .before .if2 .taken in
-      exceeds-for-all (start .args .ranks) (c .exceeds-every .result) s t
+      exceeds-for-all (start .args .symbols .ranks) (c .exceeds-every .result) s t
       (c .exceeds-every .ensures (s .term) (ts .terms) (s .behind) (ts .behind) (s .stands) (ts .stand)
-      ∙ sym (root-above (start .args .ranks) (left (left-known known) .root) (right known .root) (sym (not-reached known)) above))
+      ∙ sym (root-above (start .args .symbols .ranks) (left (left-known known) .root) (right known .root) (sym (not-reached known)) above))
 
   add-decreases-at : Of lts.Need-add-decreases-at t
   add-decreases-at c = omega (arith, left (left-known (c .before .before .before)) .inside)
@@ -171,9 +172,9 @@ module _ (t : ℕ) where
       let ss = left (left-known known) .under in
       let ts = as-many (right known .under) (alike known (c .before .if3 .taken)) in
       let above = sym (c .before .before .before .higher .ensures) ∙ c .before .before .if2 .left in
-      exceeds-for-all (start .args .ranks) (c .decreases-at .result) s t
+      exceeds-for-all (start .args .symbols .ranks) (c .decreases-at .result) s t
       (c .decreases-at .ensures (s .term) (ss .terms) (ts .terms) (s .behind) (ss .behind) (ts .behind) (s .stands) (ss .stand) (ts .stand)
-      ∙ sym (root-equal (start .args .ranks) (left (left-known known) .root) (right known .root) (sym (not-reached known)) above (c .before .if3 .taken)))
+      ∙ sym (root-equal (start .args .symbols .ranks) (left (left-known known) .root) (right known .root) (sym (not-reached known)) above (c .before .if3 .taken)))
 
   returns-6 : Of lts.Need-returns-6 t
   returns-6 c =
@@ -181,8 +182,8 @@ module _ (t : ℕ) where
       let start = start-of (left-known known) in
       let (s, t) = start .pre .1 in
       let above = sym (c .before .before .higher .ensures) ∙ c .before .if2 .left in
-      exceeds-for-all (start .args .ranks) false s t
-      (sym (root-fails (start .args .ranks) (left (left-known known) .root) (right known .root) (sym (not-reached known)) above (c .if3 .left)))
+      exceeds-for-all (start .args .symbols .ranks) false s t
+      (sym (root-fails (start .args .symbols .ranks) (left (left-known known) .root) (right known .root) (sym (not-reached known)) above (c .if3 .left)))
 
 pub met : {M : Type 1} (t : ℕ) → lts.Closed (exceeds-calls t) (exceeds-at t) reads.Post M
 met t = lts.spec (exceeds-calls t) (exceeds-at t) reads.Post (root-at-requires t) (enum-known-f t) (enum-told t) (returns t) (add-some-reaches t) (sub-some-reaches t) (some-reaches-requires t) (returns-2 t) (root-at-requires-2 t) (enum-known-g t) (enum-told-2 t) (returns-3 t) (higher-requires t) (add-exceeds-every t) (sub-exceeds-every t) (exceeds-every-requires t) (returns-4 t) (add-decreases-at t) (add-decreases-at-2 t) (sub-decreases-at t) (decreases-at-requires t) (returns-5 t) (returns-6 t)

@@ -19,19 +19,19 @@ use Rattle.order.proofs.compare.+decreases_at+exceeds+exceeds_every+som
 use Rattle.order.proofs.compare.higher.Reads as higher
 use Rattle.order.proofs.compare.nodes_at.Reads as nodes-at
 use Rattle.order.proofs.compare.root_at.Reads as root-at
-use Rattle.term.proofs.same_at.Reads as same-at
+use Rattle.order.proofs.compare.same_at.Reads as same-at
 
 abbrev pub μ-exceeds : Measures 1 exceeds-kinds.ps ℕ
-μ-exceeds κs a = 2 * (a .1 .1 .1 .1 .0 + a .1 .1 .1 .1 .1 .1 .0)
+μ-exceeds κs a = 2 * (a .1 .1 .1 .0 + a .1 .1 .1 .1 .1 .0)
 
 abbrev pub μ-some-reaches : Measures 1 some-reaches-kinds.ps ℕ
-μ-some-reaches κs a = 2 * (a .1 .1 .1 .1 .1 .0 + a .1 .1 .1 .1 .1 .1 .1 .0) + 1
+μ-some-reaches κs a = 2 * (a .1 .1 .1 .1 .0 + a .1 .1 .1 .1 .1 .1 .0) + 1
 
 abbrev pub μ-exceeds-every : Measures 1 exceeds-every-kinds.ps ℕ
-μ-exceeds-every κs a = 2 * (a .1 .1 .1 .1 .0 + a .1 .1 .1 .1 .1 .1 .1 .0) + 1
+μ-exceeds-every κs a = 2 * (a .1 .1 .1 .0 + a .1 .1 .1 .1 .1 .1 .0) + 1
 
 abbrev pub μ-decreases-at : Measures 1 decreases-at-kinds.ps ℕ
-μ-decreases-at κs a = 2 * (a .1 .1 .1 .1 .0 + a .1 .1 .1 .1 .1 .1 .1 .1 .0) + 1
+μ-decreases-at κs a = 2 * (a .1 .1 .1 .0 + a .1 .1 .1 .1 .1 .1 .1 .0) + 1
 
 module _ (t : ℕ) where
   abbrev pub exceeds-at : In 1 exceeds-kinds.ps

@@ -17,12 +17,12 @@ use Rattle.order.proofs.compare.+decreases_at+exceeds+exceeds_every+som
 use Rattle.order.proofs.compare.+decreases_at+exceeds+exceeds_every+some_reaches.Proof.Falling.{some-reaches-at, some-reaches-calls}
 
 abbrev Inv-loop : lts.InvT-loop
-Inv-loop bytes arities ranks many ss ss-nodes t t-nodes left₀ at₀ left at =
-    ArgumentsAt bytes arities left at ss-nodes ×
-    ((r : Bool) → SomeReachesAt bytes arities ranks left at t r → SomeReachesAt bytes arities ranks many ss t r)
+Inv-loop bytes symbols many ss ss-nodes t t-nodes left₀ at₀ left at =
+    ArgumentsAt bytes (symbols .arities) left at ss-nodes ×
+    ((r : Bool) → SomeReachesAt bytes (symbols .arities) (symbols .ranks) left at t r → SomeReachesAt bytes (symbols .arities) (symbols .ranks) many ss t r)
 
 abbrev μ-loop : lts.MeasureT-loop
-μ-loop bytes arities ranks many ss ss-nodes t t-nodes left₀ at₀ left at = left
+μ-loop bytes symbols many ss ss-nodes t t-nodes left₀ at₀ left at = left
 
 -- A place of the code, or what is asked there, at the number t.
 abbrev Of :
@@ -38,7 +38,7 @@ module _ (t : ℕ) where
   PartsOf c =
       let start = start-of c in
       let head = c .before .before .before .before .loop in
-      Parted (start .args .bytes .now) (start .args .arities) (head .left) (head .at) (start .args .ss-nodes) (c .nodes-at .result) (head .inv .0 .terms)
+      Parted (start .args .bytes .now) (start .args .symbols .arities) (head .left) (head .at) (start .args .ss-nodes) (c .nodes-at .result) (head .inv .0 .terms)
 
   parts-of : (c : Of lts.After-nodes-at t) → PartsOf c
   parts-of c = parted (c .nodes-at .result) (c .before .before .before .before .loop .inv .0) (c .before .before .before .loop-test .taken) (c .nodes-at .ensures)
@@ -52,7 +52,7 @@ module _ (t : ℕ) where
   -- Whether it exceeds t.
   first-exceeds :
       (c : Of lts.After-exceeds t) →
-      c .exceeds .result ≡ exceeds (start-of (c .before) .args .ranks) (parts-of (c .before) .first .term) (start-of (c .before) .pre .1 .1 .term)
+      c .exceeds .result ≡ exceeds (start-of (c .before) .args .symbols .ranks) (parts-of (c .before) .first .term) (start-of (c .before) .pre .1 .1 .term)
   first-exceeds c =
       let a = parts-of (c .before) .first in
       let b = start-of (c .before) .pre .1 .1 in
@@ -72,7 +72,7 @@ module _ (t : ℕ) where
       let parts = args-first (head .inv .0 .stand) (omega (arith, c .before .before .loop-test .taken)) in
       let identical = sym (c .before .same-at .ensures (parts .first) (t .term) (parts .behind) (t .behind) (parts .first-stands) (t .stands)) ∙ c .if1 .taken in
       head .inv .1 true
-      (some-for-all (start .args .ranks) true (head .inv .0) t (sym (some-identical (start .args .ranks) (parts .parted) (t .term) identical)))
+      (some-for-all (start .args .symbols .ranks) true (head .inv .0) t (sym (some-identical (start .args .symbols .ranks) (parts .parted) (t .term) identical)))
 
   nodes-at-requires : Of lts.Need-nodes-at-requires t
   nodes-at-requires c κs = first-standing (c .before .before .before .loop .inv .0) (c .before .before .loop-test .taken)
@@ -89,8 +89,8 @@ module _ (t : ℕ) where
       let t = start .pre .1 .1 in
       let more = sym (first-exceeds (c .before)) ∙ c .if2 .taken in
       head .inv .1 true
-      (some-for-all (start .args .ranks) true (head .inv .0) t
-      (sym (some-exceeds (start .args .ranks) (parts-of (c .before .before) .parts) (t .term) more)))
+      (some-for-all (start .args .symbols .ranks) true (head .inv .0) t
+      (sym (some-exceeds (start .args .symbols .ranks) (parts-of (c .before .before) .parts) (t .term) more)))
 
   mul-at : Of lts.Need-mul-at t
   mul-at c = omega (arith, parts-of (c .before .before) .inside)
@@ -115,9 +115,9 @@ module _ (t : ℕ) where
         wider rest (omega arith),
         λ r h.
             head .inv .1 r
-            (some-for-all (start .args .ranks) r (head .inv .0) t
+            (some-for-all (start .args .symbols .ranks) r (head .inv .0) t
             (h (rest .terms) (t .term) (rest .behind) (t .behind) (rest .stand) (t .stands)
-            ∙ sym (some-later (start .args .ranks) (parts .parts) (t .term) (differs (c .before .before)) less))),
+            ∙ sym (some-later (start .args .symbols .ranks) (parts .parts) (t .term) (differs (c .before .before)) less))),
       )
 
   returns-3 : Of lts.Need-returns-3 t
@@ -126,8 +126,8 @@ module _ (t : ℕ) where
       let head = c .before .loop in
       let t = start .pre .1 .1 in
       head .inv .1 false
-      (some-for-all (start .args .ranks) false (head .inv .0) t
-      (sym (some-none (start .args .ranks) (none-there (head .inv .0) (c .loop-test .left)) (t .term))))
+      (some-for-all (start .args .symbols .ranks) false (head .inv .0) t
+      (sym (some-none (start .args .symbols .ranks) (none-there (head .inv .0) (c .loop-test .left)) (t .term))))
 
 pub met : {M : Type 1} (t : ℕ) → lts.Closed (some-reaches-calls t) (some-reaches-at t) reads.Post M
 met t = lts.spec (some-reaches-calls t) (some-reaches-at t) reads.Post Inv-loop μ-loop (loop-holds t) (same-at-requires t) (returns t) (nodes-at-requires t) (exceeds-requires t) (returns-2 t) (mul-at t) (add-at t) (sub-left t) (loop-less t) (loop-again t) (returns-3 t)
