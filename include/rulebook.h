@@ -7,6 +7,8 @@
 #ifndef RULEBOOK_H
 #define RULEBOOK_H
 
+#define RULEBOOK_VERSION "1.0.0"
+
 #include <stddef.h>
 #include <stdint.h>
 
