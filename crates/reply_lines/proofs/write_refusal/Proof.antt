@@ -5,7 +5,8 @@ use Rattle.reply.specs.Refusals.{numbered}
 use Rattle.reply.specs.declared.NumberAt.{NumberAt}
 use Rattle.text.specs.Text.{ascii}
 use Rattle.text.proofs.Laying.{lays-as, lays-then}
-use Rattle.reply_lines.specs.Lines.{counted, refusalText}
+use Rattle.term_text.specs.Numbers.{counted}
+use Rattle.reply_lines.specs.Lines.{refusalText}
 use Rattle.reply_lines.proofs.write_refusal.Statement.{statement}
 use Rattle.reply_lines.proofs.write_refusal.Tie as tie
 

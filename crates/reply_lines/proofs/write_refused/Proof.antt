@@ -4,7 +4,8 @@ use mathlib.Core.Path.{refl}
 use borrow.Author.Needs.{needs}
 use Rattle.text.specs.Text.{ascii, refusedLine}
 use Rattle.text.proofs.Laying.{lays-as, lays-then}
-use Rattle.reply_lines.specs.Lines.{counted, refusalText}
+use Rattle.term_text.specs.Numbers.{counted}
+use Rattle.reply_lines.specs.Lines.{refusalText}
 use Rattle.reply_lines.proofs.write_refused.Statement.{statement}
 use Rattle.reply_lines.proofs.write_refused.Tie as tie
 

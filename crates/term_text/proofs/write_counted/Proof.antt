@@ -1,9 +1,9 @@
 -- `write_counted` meets its contract. Assumes nothing.
 use borrow.Author.Needs.{needs}
 use Rattle.text.proofs.Laying.{lays-then}
-use Rattle.reply_lines.specs.Lines.{counted}
-use Rattle.reply_lines.proofs.write_counted.Statement.{statement}
-use Rattle.reply_lines.proofs.write_counted.Tie as tie
+use Rattle.term_text.specs.Numbers.{counted}
+use Rattle.term_text.proofs.write_counted.Statement.{statement}
+use Rattle.term_text.proofs.write_counted.Tie as tie
 
 write-text-requires : tie.Need-write-text-requires
 write-text-requires c κs = search needs
