@@ -6,7 +6,7 @@ use contract.Lifetimes.{Lfts}
 use borrow.Fn.Kinds.{Dens}
 use denote.Ref.{now}
 use Rattle.reply.specs.Reply.{Reply, given, refused, _>>=_}
-use Rattle.rewriting.specs.Argument.{Part, argument}
+use Rattle.steps.specs.Argument.{Part, argument}
 use Rattle.rewriting.specs.Asked.{handedOut, partBytes}
 use Rattle.rewriting.proofs.asking.argument.Kinds as kinds
 use Rattle.rewriting.proofs.asking.argument.Reads as reads

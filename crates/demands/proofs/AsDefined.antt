@@ -4,7 +4,7 @@ use mathlib.Core.Path.{_≡_, refl, ap, _∙_}
 use lib.ListN.{length}
 use Rattle.reply.specs.Reply.{Reply, given, refused, _>>=_}
 use Rattle.reply.specs.Lent.{laid, lengthOf}
-use Rattle.rewriting.specs.Run.{ranBytes}
+use Rattle.steps.specs.Run.{ranBytes}
 use Rattle.rewriting.specs.RunMeaning.{runTold}
 use Rattle.demands.specs.EntryPoints.{Bytes, answer, bufferAfter}
 use Rattle.demands.specs.InCode.{AsDefined}

@@ -12,18 +12,18 @@ use Rattle.book.proofs.ReadRecord.{record-read}
 use Rattle.order.proofs.Checked.{ranks-clear-exactly}
 use Rattle.order.proofs.PathOrder.{ranks-order}
 use Rattle.order.proofs.Among.{rules-go-down}
-use Rattle.rewriting.specs.Run.{Outcome, done, spent, tooLarge, Ran, runFrom, ranOn, run}
+use Rattle.steps.specs.Run.{Outcome, done, spent, tooLarge, Ran, runFrom, ranCleared, run}
 use Rattle.book.proofs.RecordBack.{record-back}
-use Rattle.rewriting.proofs.Run.{after, budgets-add}
-use Rattle.rewriting.proofs.Run as Runs
-use Rattle.rewriting.proofs.StaysARecord.{Recordable, run-recordable}
+use Rattle.steps.proofs.Run.{after, budgets-add}
+use Rattle.steps.proofs.Run as Runs
+use Rattle.steps.proofs.StaysARecord.{Recordable, run-recordable}
 use Rattle.demands.specs.EntryPoints.{Bytes}
 use Rattle.demands.specs.BudgetsAdd.{counting, carriedOn, BudgetsAdd}
 use Rattle.demands.proofs.Demand3.{Accepted, accepted, run-of}
 
 -- A run that was not refused had room.
 had-room : (bytes ranks record′ : Bytes) (budget room : ℕ) (ran : Ran) → run bytes ranks record′ budget room ≡ given ran → 513 ≤ room
-unfolding run ranOn
+unfolding run ranCleared
 had-room bytes ranks record′ budget room ran e =
     let (book, readable, afterBook) = bind-given _ _ _ e in
     let (cleared, afterRanks) = then-given _ _ _ afterBook in

@@ -9,9 +9,9 @@ use Rattle.reply.specs.Reply.{given}
 use Rattle.reply.specs.Lent.{laid}
 use Rattle.term.specs.Prefix.{recordBytes}
 use Rattle.book.specs.Book.{Rule}
-use Rattle.rewriting.specs.Run.{Outcome, done, spent, tooLarge, Ran, runFrom, run}
+use Rattle.steps.specs.Run.{Outcome, done, spent, tooLarge, Ran, runFrom, run}
 use Rattle.rewriting.specs.RunMeaning.{Told, toldOf}
-use Rattle.rewriting.proofs.Run.{after, carriedOn}
+use Rattle.steps.proofs.Run.{after, carriedOn}
 use Rattle.demands.specs.EntryPoints.{Bytes, aRun}
 use Rattle.demands.specs.InCode.{InCode, AsDefined}
 use Rattle.demands.specs.BudgetsAdd.{BudgetsAddInCode}

@@ -2,7 +2,7 @@
 use mathlib.Core.Bool.{true}
 use mathlib.Core.Path.{_≡_, refl}
 use Rattle.clauses.specs.Computing as Clauses
-use Rattle.rewriting.specs.Computing as Rewriting
+use Rattle.steps.specs.Computing as Rewriting
 use Rattle.demands.specs.Claims.{
   tables,
   tablesOf,

@@ -21,8 +21,8 @@ use Rattle.clauses.specs.File.{numberedBlock, blockOf, block}
 use Rattle.answer.specs.Values.{Values, unclosed, closed, variableOf, named, itemAfter, itemsAfter}
 use Rattle.answer.specs.Lines.{Line, comment, verdict, values, noLine, Said, nothing, satisfied, noModel, verdictAfter, valuesAfter, lineAfter, linesAfter, lineOf, whole, readAnswer}
 use Rattle.answer.specs.Ranks.{answered, ranksFromAnswer}
-use Rattle.rewriting.specs.Run.{ranOn, run}
-use Rattle.rewriting.specs.Argument.{partOf, argumentOf, argument}
+use Rattle.steps.specs.Run.{ranCleared, run}
+use Rattle.steps.specs.Argument.{partOf, argumentOf, argument}
 use Rattle.demands.specs.EntryPoints.{Bytes, EntryPoint, bufferAfter, readingABook, aBlock, checkingRanks, ranksOfAnAnswer, aRun, anArgument, entryPoints}
 use Rattle.demands.specs.Demand1.{ResultOrRefusal, Demanded, Demand1}
 use Rattle.demands.proofs.Each.{noMore, also, each→}
@@ -166,7 +166,7 @@ term-only book bytes = told-only _
 
 -- A run.
 run-only : (book ranks record′ : Bytes) (budget room : ℕ) → Only (1 ∷ 2 ∷ 3 ∷ 4 ∷ 5 ∷ 6 ∷ 7 ∷ 8 ∷ 11 ∷ 9 ∷ []) (run book ranks record′ budget room)
-unfolding run ranOn
+unfolding run ranCleared
 run-only book ranks record′ budget room =
     after (more _ tt (book-only book))
     (λ b. then (more _ tt (clear-only b ranks)) (after (more _ tt (term-only b record′)) (λ t. test _ _ tt result)))

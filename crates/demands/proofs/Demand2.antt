@@ -39,10 +39,10 @@ use Rattle.answer.proofs.Checked.{answers-are-checked, length-ranksOf}
 use Rattle.printed_answer.proofs.PrintedRanks.{printed-ranks}
 use Rattle.printed_answer.proofs.Usual.{usual-tells, usual-short}
 use Rattle.printed_answer.proofs.UsualBytes.{usual-bytes}
-use Rattle.rewriting.specs.Step.{OwnSteps}
-use Rattle.rewriting.specs.Run.{Ran, Means, run, runFrom}
-use Rattle.rewriting.proofs.OwnStep.{own-step-is-free}
-use Rattle.rewriting.proofs.Run.{run-yields}
+use Rattle.steps.specs.Step.{OwnSteps}
+use Rattle.steps.specs.Run.{Ran, Means, run, runFrom}
+use Rattle.steps.proofs.OwnStep.{own-step-is-free}
+use Rattle.steps.proofs.Run.{run-yields}
 use Rattle.demands.specs.EntryPoints.{Bytes}
 use Rattle.demands.specs.Demand2.{
   SatisfyingAssignment,

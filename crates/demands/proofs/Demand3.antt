@@ -22,11 +22,11 @@ use Rattle.order.proofs.Grows.{over→declared}
 use Rattle.order.proofs.RanksOfPrecedence.{ranks-of-precedence}
 use Rattle.order.proofs.PathOrder.{ranks-order}
 use Rattle.order.proofs.Among.{rules-go-down}
-use Rattle.rewriting.specs.Step.{Steps}
-use Rattle.rewriting.specs.Run.{Outcome, done, spent, tooLarge, Ran, runFrom, ranOn, run}
-use Rattle.rewriting.proofs.Bound.{bounded}
-use Rattle.rewriting.proofs.Run.{never-spent}
-use Rattle.rewriting.proofs.RanOn.{then-run}
+use Rattle.steps.specs.Step.{Steps}
+use Rattle.steps.specs.Run.{Outcome, done, spent, tooLarge, Ran, runFrom, ranCleared, run}
+use Rattle.steps.proofs.Bound.{bounded}
+use Rattle.steps.proofs.Run.{never-spent}
+use Rattle.steps.proofs.RanCleared.{then-run}
 use Rattle.demands.specs.EntryPoints.{Bytes}
 use Rattle.demands.specs.Demand2.{SomePrecedenceClears}
 use Rattle.demands.specs.Demand3.{Bounded, ComesToRest, NeverSpent, DoneOrTooLarge, Demand3}
@@ -65,7 +65,7 @@ pub record Accepted (bytes ranks record′ : Bytes) (budget : ℕ) (ran : Ran) :
   pub runs : runFrom (book .rules) budget 0 term ≡ ran
 
 pub accepted : (bytes ranks record′ : Bytes) (budget room : ℕ) (ran : Ran) → run bytes ranks record′ budget room ≡ given ran → Accepted bytes ranks record′ budget ran
-unfolding run ranOn
+unfolding run ranCleared
 accepted bytes ranks record′ budget room ran e =
     let (book, readable, afterBook) = bind-given _ _ _ e in
     let (cleared, afterRanks) = then-given _ _ _ afterBook in

@@ -10,7 +10,7 @@ use Rattle.term.specs.Prefix.{recordBytes}
 use Rattle.book.specs.Book.{Book}
 use Rattle.book.specs.Reading.{readBook}
 use Rattle.book.specs.Record.{readRecord}
-use Rattle.rewriting.specs.Run.{Ran, run, ranBytes}
+use Rattle.steps.specs.Run.{Ran, run, ranBytes}
 use Rattle.rewriting.specs.RunMeaning.{Told, toldOf, runTold}
 use Rattle.demands.specs.EntryPoints.{Bytes, answer, bufferAfter, aRun}
 use Rattle.demands.specs.Demand2.{RunYields}

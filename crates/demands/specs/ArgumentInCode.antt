@@ -4,7 +4,7 @@ use Prim.Native.Nat.{ℕ}
 use mathlib.Core.List.{[]}
 use mathlib.Core.Path.{_≡_}
 use Rattle.reply.specs.Reply.{Refusal, given, refused}
-use Rattle.rewriting.specs.Argument.{Part}
+use Rattle.steps.specs.Argument.{Part}
 use Rattle.rewriting.specs.Asked.{partBytes}
 use Rattle.demands.specs.EntryPoints.{Bytes, anArgument}
 use Rattle.demands.specs.InCode.{InCode}

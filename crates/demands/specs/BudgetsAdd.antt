@@ -4,7 +4,7 @@ use mathlib.Core.Path.{_≡_}
 use lib.ListN.{take}
 use Rattle.reply.specs.Reply.{Reply, given, _>>=_}
 use Rattle.term.specs.Prefix.{recordBytes}
-use Rattle.rewriting.specs.Run.{done, spent, tooLarge, Ran, run}
+use Rattle.steps.specs.Run.{done, spent, tooLarge, Ran, run}
 use Rattle.rewriting.specs.RunMeaning.{Told}
 use Rattle.demands.specs.EntryPoints.{Bytes, aRun}
 use Rattle.demands.specs.InCode.{InCode}

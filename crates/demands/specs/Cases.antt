@@ -20,7 +20,7 @@ use Rattle.book.specs.Examples.{
   oneAndNone,
 }
 use Rattle.order.specs.Precedence.{above}
-use Rattle.rewriting.specs.Run.{done, spent}
+use Rattle.steps.specs.Run.{done, spent}
 use Rattle.demands.specs.Claims.{Case, forAllRanks, forRanks, headed, prints, runs, clears, doesNotClear, gives}
 
 unfoldable pub cases : List Case

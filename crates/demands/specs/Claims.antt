@@ -11,7 +11,7 @@ use Rattle.book.specs.Reading.{readBook}
 use Rattle.order.specs.Clearing.{checkRanks}
 use Rattle.clauses.specs.Numbering.{numbers}
 use Rattle.clauses.specs.File.{block, clauseProgram}
-use Rattle.rewriting.specs.Run.{Outcome, done, spent, tooLarge, Ran, run}
+use Rattle.steps.specs.Run.{Outcome, done, spent, tooLarge, Ran, run}
 use Rattle.demands.specs.EntryPoints.{Bytes}
 
 pub data Case : Type 0 where

@@ -21,8 +21,8 @@ use Rattle.clauses.specs.Dimacs.{readDimacs}
 use Rattle.answer.specs.Ranks.{ranksFromAnswer}
 use Rattle.printed_answer.specs.Printed.{Printed, printedAnswer, allLiterals, TellsRanks}
 use Rattle.printed_answer.specs.Usual.{usualAnswer}
-use Rattle.rewriting.specs.Step.{Step, stepOf, OwnSteps}
-use Rattle.rewriting.specs.Run.{Ran, Means, run}
+use Rattle.steps.specs.Step.{Step, stepOf, OwnSteps}
+use Rattle.steps.specs.Run.{Ran, Means, run}
 use Rattle.demands.specs.EntryPoints.{Bytes}
 
 -- A satisfying assignment of a file: of the clauses that a DIMACS reader finds in its bytes.

@@ -10,8 +10,8 @@ use Rattle.book.specs.Book.{Book, Rule}
 use Rattle.book.specs.Reading.{readBook}
 use Rattle.book.specs.Record.{readRecord}
 use Rattle.order.specs.Clearing.{checkRanks}
-use Rattle.rewriting.specs.Step.{Steps}
-use Rattle.rewriting.specs.Run.{done, spent, tooLarge, Ran, run}
+use Rattle.steps.specs.Step.{Steps}
+use Rattle.steps.specs.Run.{done, spent, tooLarge, Ran, run}
 use Rattle.demands.specs.EntryPoints.{Bytes}
 use Rattle.demands.specs.Demand2.{SomePrecedenceClears}
 

@@ -10,9 +10,9 @@ use Rattle.book.specs.Reading.{readBook}
 use Rattle.order.specs.Clearing.{checkRanks}
 use Rattle.clauses.specs.File.{block}
 use Rattle.answer.specs.Ranks.{ranksFromAnswer}
-use Rattle.rewriting.specs.Run.{Ran, run}
+use Rattle.steps.specs.Run.{Ran, run}
 use Rattle.rewriting.specs.RunMeaning.{Told, toldOf}
-use Rattle.rewriting.specs.Argument.{Part, argument}
+use Rattle.steps.specs.Argument.{Part, argument}
 
 -- Bytes: a book, ranks, a record, a solver's answer, a lent buffer.
 abbrev pub Bytes : Type 0

@@ -11,8 +11,8 @@ use Rattle.book.specs.Book.{Book}
 use Rattle.book.specs.Reading.{readBook}
 use Rattle.book.specs.Record.{readRecord}
 use Rattle.order.specs.Clearing.{checkRanks}
-use Rattle.rewriting.specs.Step.{OwnSteps}
-use Rattle.rewriting.specs.Run.{done, tooLarge, Means}
+use Rattle.steps.specs.Step.{OwnSteps}
+use Rattle.steps.specs.Run.{done, tooLarge, Means}
 use Rattle.rewriting.specs.RunMeaning.{Told}
 use Rattle.demands.specs.EntryPoints.{Bytes, aRun}
 use Rattle.demands.specs.InCode.{InCode}

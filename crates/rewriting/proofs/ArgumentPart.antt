@@ -11,7 +11,7 @@ use Rattle.term.specs.Term.{Term, Args, var, app, nil, cons, size, sizes, count
 use Rattle.term.specs.Root.{arguments}
 use Rattle.term.specs.At.{At, ArgsAt}
 use Rattle.term.proofs.At.{FirstAt, at-end, at-arguments, args-first}
-use Rattle.rewriting.specs.Argument.{Part, partOf, argumentOf}
+use Rattle.steps.specs.Argument.{Part, partOf, argumentOf}
 
 -- The root's arguments decide.
 by-arguments : (t : Term) (i : ℕ) → argumentOf t i ≡ partOf 2 (arguments t) i

@@ -18,13 +18,13 @@ use Rattle.term.proofs.At.{at-end, at-within}
 use Rattle.term.proofs.PrefixAt.{prefix-length, at-prefix, at-over, prefix-at}
 use Rattle.term.proofs.Copied.{copied-whole}
 use Rattle.book.specs.Book.{Rule}
-use Rattle.rewriting.specs.Run.{Ran, runFrom, ranBytes}
+use Rattle.steps.specs.Run.{Ran, runFrom, ranBytes}
 use Rattle.rewriting.specs.Turns.{held, TermIn, outcomeOf, RunTo}
 use Rattle.rewriting.specs.RunMeaning.{Told, toldOf, runTold, runMeaning, RunsTo}
 use Rattle.rewriting.specs.declared.running.Reached.{Reached}
 use Rattle.rewriting.specs.declared.running.RunReply.{RunReply}
 use Rattle.rewriting.specs.declared.running.RunReply.the-variants.{RanTo}
-use Rattle.rewriting.proofs.LaidDown.{front-copied}
+use Rattle.building.proofs.LaidDown.{front-copied}
 
 -- A term stands in any bytes that begin as those that it stands in.
 at-beginning : {bytes arities : List ℕ} {t : Term} {e : ℕ} (l : List ℕ) → At bytes arities 0 t e → take e l ≡ take e bytes → At (take e l) arities 0 t e

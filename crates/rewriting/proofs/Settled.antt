@@ -1,31 +1,28 @@
--- Two replies that the contract of one function allows are equal, said of the contracts themselves. An answer is found again from its
--- meaning: the number says which it is. Assumes nothing.
+-- Two replies that the contract of one function allows are equal, said of the contracts themselves: an answer can be told from what it
+-- means. Assumes nothing.
 use Prim.Native.Nat.{ℕ}
-use mathlib.Core.Bool.{true, false}
-use mathlib.Core.List.{List, [], _∷_}
 use mathlib.Core.Path.{_≡_, refl, sym, ap, _∙_}
-use lib.Dec.{eqb}
-use lib.ListN.{getD}
 use borrow.Fn.Kinds.{Dens, endedOf}
 use borrow.Fn.World.{ResD}
 use contract.Lifetimes.{Lfts}
 use denote.Ref.{now}
 use denote.Triple.Clauses.{AtExit}
-use Rattle.reply.specs.Reply.{Refusal, Reply, given, refused, _>>=_}
-use Rattle.book.specs.Meaning.{told}
-use Rattle.book.specs.declared.BookVerdict.{BookVerdict}
-use Rattle.book.specs.declared.BookVerdict.the-variants.{Readable, Ended, UnknownKind, NotAllowed, BadBody, TooMany, AfterEnd}
-use Rattle.rewriting.specs.Argument.{Part}
-use Rattle.rewriting.specs.Asked.{unreadable, argumentMeaning}
+use Rattle.reply.specs.Refusals.{numbered}
+use Rattle.reply.specs.declared.Refusal.{Refusal as Named}
+use Rattle.reply.proofs.Given.{given-not-refused}
+use Rattle.reply.proofs.Refusals.{numbered-apart}
+use Rattle.steps.specs.Argument.{Part}
+use Rattle.rewriting.specs.Asked.{argumentMeaning}
 use Rattle.rewriting.specs.declared.asking.ArgumentReply.{ArgumentReply}
-use Rattle.rewriting.specs.declared.asking.ArgumentReply.the-variants.{Found, Unreadable, Malformed, NoSuchArgument}
-use Rattle.rewriting.specs.Run.{Outcome, done, spent, tooLarge}
+use Rattle.rewriting.specs.declared.asking.ArgumentReply.the-variants.{Found, Refused}
+use Rattle.steps.specs.Run.{Outcome, done, spent, tooLarge}
 use Rattle.rewriting.specs.Turns.{outcomeOf}
 use Rattle.rewriting.specs.RunMeaning.{Told, runMeaning}
-use Rattle.rewriting.specs.declared.stepping.Outcome.{Outcome as Ending}
-use Rattle.rewriting.specs.declared.stepping.Outcome.the-variants.{Done, Spent, TooLarge}
+use Rattle.stepping.specs.declared.Outcome.{Outcome as Ending}
+use Rattle.stepping.specs.declared.Outcome.the-variants.{Done, Spent, TooLarge}
 use Rattle.rewriting.specs.declared.running.RunReply as replies
 use Rattle.rewriting.specs.declared.running.RunReply.{RunReply}
+use Rattle.rewriting.specs.declared.running.RunReply.the-variants.{RanTo}
 use Rattle.rewriting.proofs.asking.argument as question
 use Rattle.rewriting.proofs.asking.argument.Kinds as question-kinds
 use Rattle.rewriting.proofs.asking.argument.Reads as question-reads
@@ -34,34 +31,20 @@ use Rattle.rewriting.proofs.asking.argument_reply.Reads as reply-reads
 use Rattle.rewriting.proofs.running.run.Kinds as run-kinds
 use Rattle.rewriting.proofs.running.run.Reads as run-reads
 
--- The verdict of a refusal 1 to 6.
-verdictOf : Refusal → BookVerdict
-verdictOf r =
-    let p = r .place in
-    getD (Readable ∷ Ended p ∷ UnknownKind p ∷ NotAllowed p ∷ BadBody p ∷ TooMany p ∷ AfterEnd p ∷ []) (r .number) Readable
-
-answerOf : Reply Part → ArgumentReply
-answerOf (given part) = Found (part .start) (part .length)
-answerOf (refused r) =
-    elim (eqb (r .number) 11) [ true ↦ Malformed | false ↦ elim (eqb (r .number) 15) [ true ↦ NoSuchArgument | false ↦ Unreadable (verdictOf r) ] ]
-
-found-again : (reply : ArgumentReply) → answerOf (argumentMeaning reply) ≡ reply
-unfolding answerOf verdictOf argumentMeaning unreadable told _>>=_
-found-again (Found start length) = refl
-found-again (Unreadable Readable) = refl
-found-again (Unreadable (Ended p)) = refl
-found-again (Unreadable (UnknownKind p)) = refl
-found-again (Unreadable (NotAllowed p)) = refl
-found-again (Unreadable (BadBody p)) = refl
-found-again (Unreadable (TooMany p)) = refl
-found-again (Unreadable (AfterEnd p)) = refl
-found-again Malformed = refl
-found-again NoSuchArgument = refl
+-- Two answers with one meaning are the same: a refusal can be told from its number and place.
+argument-apart : (a b : ArgumentReply) → argumentMeaning a ≡ argumentMeaning b → a ≡ b
+unfolding argumentMeaning
+argument-apart (Found start length) (Found start′ length′) e =
+    let same : _≡_ {A = Part} (record { start = start; length = length }) (record { start = start′; length = length′ }) = cc in
+    ap (λ (part : Part). Found (part .start) (part .length)) same
+argument-apart (Found start length) (Refused r) e = absurd (given-not-refused _ (numbered r) e)
+argument-apart (Refused r) (Found start length) e = absurd (given-not-refused _ (numbered r) (sym e))
+argument-apart (Refused r) (Refused s) e = ap (λ (why : Named). Refused why) (numbered-apart r s cc)
 
 pub argument-reply-settled :
     (κs : Lfts 2) (a : Dens κs reply-kinds.ps) (r r′ : ArgumentReply) (e e′ : AtExit (endedOf 2 reply-kinds.ps reply-kinds.r) κs) →
     reply-reads.Post κs a r e → reply-reads.Post κs a r′ e′ → r ≡ r′
-argument-reply-settled κs a r r′ e e′ p p′ = sym (found-again r) ∙ ap answerOf (p ∙ sym p′) ∙ found-again r′
+argument-reply-settled κs a r r′ e e′ p p′ = argument-apart r r′ (p ∙ sym p′)
 
 -- The part: the same bytes at the same place.
 pub argument-settled :
@@ -81,41 +64,20 @@ ending-again Done = refl
 ending-again Spent = refl
 ending-again TooLarge = refl
 
-runAnswerOf : Reply Told → RunReply
-runAnswerOf (given told) = replies.the-variants.RanTo (endingOf (told .outcome)) (told .steps) (told .length)
-runAnswerOf (refused r) =
-    elim (eqb (r .number) 7) [
-      | true ↦ replies.the-variants.WrongCount
-      | false ↦
-          elim (eqb (r .number) 8) [
-            | true ↦ replies.the-variants.NotDecreasing (r .place)
-            | false ↦
-                elim (eqb (r .number) 9) [
-                  | true ↦ replies.the-variants.ShortBuffer
-                  | false ↦ elim (eqb (r .number) 11) [ true ↦ replies.the-variants.Malformed | false ↦ replies.the-variants.Unreadable (verdictOf r) ]
-                ]
-          ]
-    ]
-
-run-again : (reply : RunReply) → runAnswerOf (runMeaning reply) ≡ reply
-unfolding runAnswerOf verdictOf runMeaning unreadable told _>>=_
-run-again (replies.the-variants.RanTo ending steps length) = ap (λ (e : Ending). replies.the-variants.RanTo e steps length) (ending-again ending)
-run-again (replies.the-variants.Unreadable Readable) = refl
-run-again (replies.the-variants.Unreadable (Ended p)) = refl
-run-again (replies.the-variants.Unreadable (UnknownKind p)) = refl
-run-again (replies.the-variants.Unreadable (NotAllowed p)) = refl
-run-again (replies.the-variants.Unreadable (BadBody p)) = refl
-run-again (replies.the-variants.Unreadable (TooMany p)) = refl
-run-again (replies.the-variants.Unreadable (AfterEnd p)) = refl
-run-again replies.the-variants.WrongCount = refl
-run-again (replies.the-variants.NotDecreasing rule) = refl
-run-again replies.the-variants.Malformed = refl
-run-again replies.the-variants.ShortBuffer = refl
+run-apart : (a b : RunReply) → runMeaning a ≡ runMeaning b → a ≡ b
+unfolding runMeaning
+run-apart (RanTo ending steps length) (RanTo ending′ steps′ length′) e =
+    let same : _≡_ {A = Told} (record { outcome = outcomeOf ending; steps = steps; length = length }) (record { outcome = outcomeOf ending′; steps = steps′; length = length′ }) = cc in
+    ap (λ (o : Ending). RanTo o steps length) (sym (ending-again ending) ∙ ap (λ (told : Told). endingOf (told .outcome)) same ∙ ending-again ending′)
+    ∙ ap (λ (told : Told). RanTo ending′ (told .steps) (told .length)) same
+run-apart (RanTo ending steps length) (replies.the-variants.Refused r) e = absurd (given-not-refused _ (numbered r) e)
+run-apart (replies.the-variants.Refused r) (RanTo ending steps length) e = absurd (given-not-refused _ (numbered r) (sym e))
+run-apart (replies.the-variants.Refused r) (replies.the-variants.Refused s) e = ap (λ (why : Named). replies.the-variants.Refused why) (numbered-apart r s cc)
 
 pub run-settled :
     (κs : Lfts 4) (a : Dens κs run-kinds.ps) (r r′ : RunReply) (e e′ : AtExit (endedOf 4 run-kinds.ps run-kinds.r) κs) →
     run-reads.Post κs a r e → run-reads.Post κs a r′ e′ → (r ≡ r′) × (now (e .1 .1 .1 .1 .0) ≡ now (e′ .1 .1 .1 .1 .0))
 run-settled κs a r r′ e e′ p p′ = (
-  sym (run-again r) ∙ ap runAnswerOf (p .replied ∙ sym (p′ .replied)) ∙ run-again r′,
+  run-apart r r′ (p .replied ∙ sym (p′ .replied)),
   p .written ∙ sym (p′ .written),
 )

@@ -14,15 +14,15 @@ use Rattle.term.specs.Term.{Term, size}
 use Rattle.term.specs.At.{At}
 use Rattle.term.proofs.At.{at-end}
 use Rattle.book.specs.Book.{Rule}
-use Rattle.rewriting.specs.Run.{Ran, done, spent, tooLarge, runFrom}
-use Rattle.rewriting.specs.Stepped.{EndsAt, NextIn, Tells}
+use Rattle.steps.specs.Run.{Ran, done, spent, tooLarge, runFrom}
+use Rattle.stepping.specs.Stepped.{EndsAt, NextIn, Tells}
 use Rattle.rewriting.specs.Turns.{held, TermIn, Holding, Turned, outcomeOf, RunTo}
-use Rattle.rewriting.specs.declared.stepping.Outcome.{Outcome}
-use Rattle.rewriting.specs.declared.stepping.Outcome.the-variants.{Done, Spent, TooLarge}
-use Rattle.rewriting.specs.declared.stepping.Stepped.{Stepped}
-use Rattle.rewriting.specs.declared.stepping.Stepped.the-variants.{Ended, Made}
+use Rattle.stepping.specs.declared.Outcome.{Outcome}
+use Rattle.stepping.specs.declared.Outcome.the-variants.{Done, Spent, TooLarge}
+use Rattle.stepping.specs.declared.Stepped.{Stepped}
+use Rattle.stepping.specs.declared.Stepped.the-variants.{Ended, Made}
 use Rattle.rewriting.specs.declared.running.Reached.{Reached}
-use Rattle.rewriting.proofs.Run.{run-done, run-spent, run-too-large, run-goes-on}
+use Rattle.steps.proofs.Run.{run-done, run-spent, run-too-large, run-goes-on}
 
 -- The whole of the bytes that a term stands in.
 whole : {arities : List ℕ} {t : Term} (n : ℕ) (l : List ℕ) → n ≤ length l → At (take n l) arities 0 t n → At (take n l) arities 0 t (length (take n l))
@@ -38,12 +38,12 @@ module _ {arities : List ℕ} {t : Term} {inOne : Bool} (one other : List ℕ) (
   whole-in-other e p h = whole n other p (subst (λ (b : Bool). TermIn arities b one other n t) e h)
 
 module _ {arities : List ℕ} {rules : List Rule} {t : Term} {left : ℕ} {inOne : Bool} {one other : List ℕ} {answer : Stepped} where
-  pub turned-in-one : {other′ : List ℕ} → inOne ≡ true → Tells answer arities rules t left other′ → Turned arities rules t left inOne one other one other′ answer
+  pub turned-in-one : {other′ : List ℕ} → inOne ≡ true → Tells answer arities rules t left other other′ → Turned arities rules t left inOne one other one other′ answer
   unfolding held
   turned-in-one {other′} e h =
       subst (λ (b : Bool). Turned arities rules t left b one other one other′ answer) (sym e) (record { kept = refl; tells = h })
 
-  pub turned-in-other : {one′ : List ℕ} → inOne ≡ false → Tells answer arities rules t left one′ → Turned arities rules t left inOne one other one′ other answer
+  pub turned-in-other : {one′ : List ℕ} → inOne ≡ false → Tells answer arities rules t left one one′ → Turned arities rules t left inOne one other one′ other answer
   unfolding held
   turned-in-other {one′} e h =
       subst (λ (b : Bool). Turned arities rules t left b one other one′ other answer) (sym e) (record { kept = refl; tells = h })
@@ -69,7 +69,7 @@ module _
   pub steps-remain : {one′ other′ : List ℕ} (answer : Stepped) {next : ℕ} → Turned arities rules (onward .term) (budget - steps) inOne one other one′ other′ answer → answer ≡ Made next → steps < budget
   unfolding Tells
   steps-remain {one′} {other′} answer turned is =
-      let told = subst (λ (a : Stepped). Tells a arities rules (onward .term) (budget - steps) (held (not inOne) one′ other′)) is (turned .tells) in
+      let told = subst (λ (a : Stepped). Tells a arities rules (onward .term) (budget - steps) (held (not inOne) one other) (held (not inOne) one′ other′)) is (turned .tells) in
       omega (arith, told .remain)
 
   -- A step was made: the next term stands in the other buffer.
@@ -78,8 +78,8 @@ module _
       answer ≡ Made next → Onward arities rules t budget one′ other′ (steps + 1) (not inOne) next
   unfolding Tells
   run-goes {one′} {other′} answer {next} turned is =
-      let told : NextIn arities rules (onward .term) (budget - steps) next (held (not inOne) one′ other′) =
-      subst (λ (a : Stepped). Tells a arities rules (onward .term) (budget - steps) (held (not inOne) one′ other′)) is (turned .tells) in
+      let told : NextIn arities rules (onward .term) (budget - steps) next (held (not inOne) one other) (held (not inOne) one′ other′) =
+      subst (λ (a : Stepped). Tells a arities rules (onward .term) (budget - steps) (held (not inOne) one other) (held (not inOne) one′ other′)) is (turned .tells) in
       let one-less : budget - steps ≡ suc (budget - (steps + 1)) = omega (arith, told .remain) in
       let fits : leb (size (told .next)) 256 ≡ true = is-true (leb (size (told .next)) 256) (le→leb (size (told .next)) 256 (told .nodes)) in
       record {
@@ -117,5 +117,5 @@ module _
         small = onward .small;
         run =
             onward .same
-            ∙ ends outcome (subst (λ (a : Stepped). Tells a arities rules (onward .term) (budget - steps) (held (not inOne) one′ other′)) is (turned .tells));
+            ∙ ends outcome (subst (λ (a : Stepped). Tells a arities rules (onward .term) (budget - steps) (held (not inOne) one other) (held (not inOne) one′ other′)) is (turned .tells) .0);
       }

@@ -1,12 +1,3 @@
-pub mod Fits
-pub mod Step
-pub mod Run
-pub mod Argument
-pub mod Computing
-pub mod Table
-pub mod Places
-pub mod Right
-pub mod Stepped
-pub mod Asked
 pub mod Turns
 pub mod RunMeaning
+pub mod Asked

@@ -3,16 +3,16 @@ use Prim.Native.Nat.{ℕ, _≤_}
 use mathlib.Core.List.{List}
 use mathlib.Core.Path.{_≡_}
 use lib.ListN.{length}
-use Rattle.reply.specs.Reply.{Reply, given, refused, _>>=_, _at_}
+use Rattle.reply.specs.Reply.{Reply, given, refused, _>>=_}
+use Rattle.reply.specs.Refusals.{numbered}
 use Rattle.reply.specs.Lent.{laid}
 use Rattle.term.specs.Term.{Term}
 use Rattle.term.specs.Prefix.{recordBytes}
 use Rattle.term.specs.At.{At}
-use Rattle.rewriting.specs.Run.{Outcome, Ran, ranBytes}
-use Rattle.rewriting.specs.Asked.{unreadable}
+use Rattle.steps.specs.Run.{Outcome, Ran, ranBytes}
 use Rattle.rewriting.specs.Turns.{outcomeOf}
 use Rattle.rewriting.specs.declared.running.RunReply.{RunReply}
-use Rattle.rewriting.specs.declared.running.RunReply.the-variants.{RanTo, Unreadable, WrongCount, NotDecreasing, Malformed, ShortBuffer}
+use Rattle.rewriting.specs.declared.running.RunReply.the-variants.{RanTo, Refused}
 
 -- A run as it is told: the term itself lies in the lent buffer.
 pub record Told : Type 0 where
@@ -28,14 +28,10 @@ runTold reply = do
   ran ← reply
   given (toldOf ran)
 
--- "run 7, 8, 11, 9".
+-- How the run ended, or the refusal's number and place.
 unfoldable pub runMeaning : RunReply → Reply Told
 runMeaning (RanTo outcome steps length) = given (record { outcome = outcomeOf outcome; steps = steps; length = length })
-runMeaning (Unreadable verdict) = unreadable verdict
-runMeaning WrongCount = refused (7 at 0)
-runMeaning (NotDecreasing rule) = refused (8 at rule)
-runMeaning Malformed = refused (11 at 0)
-runMeaning ShortBuffer = refused (9 at 0)
+runMeaning (Refused r) = refused (numbered r)
 
 -- The record's term stands in its first `length` bytes, at most 256 nodes.
 pub record RecordAt (bytes arities : List ℕ) (length : ℕ) : Type 0 where

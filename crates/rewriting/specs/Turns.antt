@@ -7,11 +7,11 @@ use lib.ListN.{length, take}
 use Rattle.term.specs.Term.{Term}
 use Rattle.term.specs.At.{At}
 use Rattle.book.specs.Book.{Rule}
-use Rattle.rewriting.specs.Run.{Outcome, done, spent, tooLarge, Ran, runFrom}
-use Rattle.rewriting.specs.Stepped.{Tells}
-use Rattle.rewriting.specs.declared.stepping.Outcome.{Outcome as Ending}
-use Rattle.rewriting.specs.declared.stepping.Outcome.the-variants.{Done, Spent, TooLarge}
-use Rattle.rewriting.specs.declared.stepping.Stepped.{Stepped}
+use Rattle.steps.specs.Run.{Outcome, done, spent, tooLarge, Ran, runFrom}
+use Rattle.stepping.specs.Stepped.{Tells}
+use Rattle.stepping.specs.declared.Outcome.{Outcome as Ending}
+use Rattle.stepping.specs.declared.Outcome.the-variants.{Done, Spent, TooLarge}
+use Rattle.stepping.specs.declared.Stepped.{Stepped}
 use Rattle.rewriting.specs.declared.running.Reached.{Reached}
 
 -- The buffer that holds the term.
@@ -36,7 +36,7 @@ pub record Turned
     (arities : List ℕ) (rules : List Rule) (t : Term) (left : ℕ) (inOne : Bool) (one other one′ other′ : List ℕ) (answer : Stepped) :
     Type 0 where
   pub kept : held inOne one′ other′ ≡ held inOne one other
-  pub tells : Tells answer arities rules t left (held (not inOne) one′ other′)
+  pub tells : Tells answer arities rules t left (held (not inOne) one other) (held (not inOne) one′ other′)
 
 -- The outcome on paper.
 unfoldable pub outcomeOf : Ending → Outcome

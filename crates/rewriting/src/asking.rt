@@ -1,20 +1,18 @@
 // The argument question: one argument of a record's root, as a part of the caller's own record bytes.
-use book::Book;
 use book::BookVerdict;
 use book::RecordVerdict;
+use reply::Refusal;
 ghost use mathlib.Core.Path.{_≡_};
 ghost use Prim.Native.Nat.{ℕ, _+_};
 ghost use Rattle.term.specs.Term.{Term};
 ghost use Rattle.term.specs.At.{At, Standing};
-ghost use Rattle.rewriting.specs.Argument.{argumentOf, argument};
+ghost use Rattle.steps.specs.Argument.{argumentOf, argument};
 ghost use Rattle.rewriting.specs.Asked.{argumentMeaning, handedOut, partBytes};
 
 // Where argument i of the record stands, or why there is none.
 pub enum ArgumentReply {
     Found { start: usize, length: usize },
-    Unreadable(BookVerdict),
-    Malformed,
-    NoSuchArgument,
+    Refused(Refusal),
 }
 
 // Argument i of the term at the start of the bytes.
@@ -24,7 +22,7 @@ fn argument_of(bytes: &[u8], arities: [u8; 16], number: u64) -> ArgumentReply
 {
     let many = term::arguments_at(bytes, arities, 0) as u64;
     if many <= number {
-        return ArgumentReply::NoSuchArgument;
+        return ArgumentReply::Refused(Refusal::NoSuchArgument);
     }
     let mut start = 2;
     let mut passed: u64 = 0;
@@ -45,18 +43,16 @@ pub fn argument_reply(book: &[u8], record: &[u8], number: u64) -> ArgumentReply
 {
     let read = book::read_book(book);
     let verdict = read.verdict;
-    if let BookVerdict::Readable = verdict {
-        let symbols = read.book.symbols;
-        let arities = read.book.arities;
-        let found = book::read_record(record, symbols, arities);
-        if let RecordVerdict::Whole(_) = found {
-            argument_of(record, arities, number)
-        } else {
-            ArgumentReply::Malformed
-        }
-    } else {
-        ArgumentReply::Unreadable(verdict)
+    if let BookVerdict::Refused(refusal) = verdict {
+        return ArgumentReply::Refused(refusal);
     }
+    let symbols = read.book.symbols;
+    let arities = read.book.arities;
+    let found = book::read_record(record, symbols, arities);
+    if let RecordVerdict::Faulty(fault) = found {
+        return ArgumentReply::Refused(book::record_refusal(fault));
+    }
+    argument_of(record, arities, number)
 }
 
 // Argument i (from 0) of the record's root, as a part of the record's own bytes: from the argument's first node to its last, empty for

@@ -1,24 +1,21 @@
 // The run: steps against a budget.
-pub use crate::stepping::Outcome;
-use crate::stepping::Stepped;
-use crate::stepping::step;
 use book::Book;
 use book::BookVerdict;
 use book::RecordVerdict;
 use order::RanksVerdict;
+use reply::Refusal;
+pub use stepping::Outcome;
+use stepping::Stepped;
+use stepping::step;
 ghost use Prim.Native.Nat.{_≤_};
 ghost use mathlib.Core.Bool.{true};
-ghost use mathlib.Core.List.{List};
 ghost use lib.ListN.{length};
 ghost use Rattle.reply.specs.Reply.{given};
 ghost use Rattle.term.specs.Term.{Term};
 ghost use Rattle.term.specs.At.{At};
-ghost use Rattle.book.specs.Book.{Rule};
-ghost use Rattle.book.specs.Limits.{WithinLimits};
 ghost use Rattle.book.specs.Meaning.{bookAt};
-ghost use Rattle.order.specs.Standing.{BookStands};
-ghost use Rattle.rewriting.specs.Run.{runFrom, ranOn, run};
-ghost use Rattle.rewriting.specs.Places.{RulesAt, Ruled};
+ghost use Rattle.steps.specs.Run.{runFrom, ranCleared, run};
+ghost use Rattle.stepping.specs.Places.{rulesIn, Runnable};
 ghost use Rattle.rewriting.specs.Turns.{TermIn, Holding, Turned, RunTo};
 ghost use Rattle.rewriting.specs.RunMeaning.{RecordAt, RunsTo};
 
@@ -37,11 +34,7 @@ pub enum RunReply {
         steps: u64,
         length: usize,
     },
-    Unreadable(BookVerdict),
-    WrongCount,
-    NotDecreasing(usize),
-    Malformed,
-    ShortBuffer,
+    Refused(Refusal),
 }
 
 // The next step of the term in the buffer that holds it; the next term is built in the other.
@@ -54,9 +47,9 @@ fn turn(
     length: usize,
     left: u64,
 ) -> Stepped
-    requires { ⌜ Ruled (now book) places ⌝ }
+    requires { ⌜ Runnable (now book) places ⌝ }
     requires { ⌜ Holding (places .arities) «in_one» (now one) (now other) length ⌝ }
-    ensures { λ r. ⌜ ((rules : List Rule) (t : Term) → RulesAt (now (book .entry)) places rules → TermIn (places .arities) «in_one» (now (one .entry)) (now (other .entry)) length t → Turned (places .arities) rules t left «in_one» (now (one .entry)) (now (other .entry)) (now (one .exit)) (now (other .exit)) r) ⌝ }
+    ensures { λ r. ⌜ ((t : Term) → TermIn (places .arities) «in_one» (now (one .entry)) (now (other .entry)) length t → Turned (places .arities) (rulesIn (now (book .entry)) places) t left «in_one» (now (one .entry)) (now (other .entry)) (now (one .exit)) (now (other .exit)) r) ⌝ }
 {
     if in_one {
         return step(book, places, &one[..length], left, other);
@@ -74,9 +67,9 @@ fn run_on(
     length: usize,
     budget: u64,
 ) -> Reached
-    requires { ⌜ Ruled (now book) places ⌝ }
+    requires { ⌜ Runnable (now book) places ⌝ }
     requires { ⌜ Holding (places .arities) true (now one) (now other) length ⌝ }
-    ensures { λ r. ⌜ ((rules : List Rule) (t : Term) → RulesAt (now (book .entry)) places rules → TermIn (places .arities) true (now (one .entry)) (now (other .entry)) length t → RunTo (places .arities) rules t budget (now (one .exit)) (now (other .exit)) r) ⌝ }
+    ensures { λ r. ⌜ ((t : Term) → TermIn (places .arities) true (now (one .entry)) (now (other .entry)) length t → RunTo (places .arities) (rulesIn (now (book .entry)) places) t budget (now (one .exit)) (now (other .exit)) r) ⌝ }
 {
     let mut steps: u64 = 0;
     let mut in_one = true;
@@ -111,10 +104,10 @@ fn run_record(
     budget: u64,
     out: &mut [u8],
 ) -> RunReply
-    requires { ⌜ Ruled (now book) places ⌝ }
+    requires { ⌜ Runnable (now book) places ⌝ }
     requires { ⌜ RecordAt (now «record») (places .arities) size ⌝ }
     requires { ⌜ 513 ≤ length (now out) ⌝ }
-    ensures { λ r. ⌜ ((rules : List Rule) (t : Term) → RulesAt (now (book .entry)) places rules → At (now («record» .entry)) (places .arities) 0 t size → RunsTo (given (runFrom rules budget 0 t)) r (now (out .entry)) (now (out .exit))) ⌝ }
+    ensures { λ r. ⌜ ((t : Term) → At (now («record» .entry)) (places .arities) 0 t size → RunsTo (given (runFrom (rulesIn (now (book .entry)) places) budget 0 t)) r (now (out .entry)) (now (out .exit))) ⌝ }
 {
     let mut one = [0u8; 513];
     let mut other = [0u8; 513];
@@ -135,42 +128,23 @@ fn run_record(
     }
 }
 
-// "run 7, 8, 11, 9", of a book that was read.
-fn run_read(
-    book: &[u8],
-    places: Book,
-    ranks: &[u8],
-    record: &[u8],
-    budget: u64,
-    out: &mut [u8],
-) -> RunReply
-    requires { ⌜ BookStands (now book) places (bookAt (now book) places) ⌝ }
-    requires { ⌜ WithinLimits (bookAt (now book) places) ⌝ }
-    ensures { λ r. ⌜ RunsTo (ranOn (bookAt (now (book .entry)) places) (now (ranks .entry)) (now («record» .entry)) budget (length (now (out .entry)))) r (now (out .entry)) (now (out .exit)) ⌝ }
+// The run of a cleared book: "11, 9".
+fn run_cleared(book: &[u8], places: Book, record: &[u8], budget: u64, out: &mut [u8]) -> RunReply
+    requires { ⌜ Runnable (now book) places ⌝ }
+    ensures { λ r. ⌜ RunsTo (ranCleared (bookAt (now (book .entry)) places) (now («record» .entry)) budget (length (now (out .entry)))) r (now (out .entry)) (now (out .exit)) ⌝ }
 {
-    let cleared = order::ranks_clear(book, places, ranks);
-    match cleared {
-        RanksVerdict::Accepted => {}
-        RanksVerdict::Unreadable(verdict) => {
-            return RunReply::Unreadable(verdict);
-        }
-        RanksVerdict::WrongCount => {
-            return RunReply::WrongCount;
-        }
-        RanksVerdict::NotDecreasing(rule) => {
-            return RunReply::NotDecreasing(rule);
-        }
-    }
     let symbols = places.symbols;
     let arities = places.arities;
     let found = book::read_record(record, symbols, arities);
-    let RecordVerdict::Whole(nodes) = found else {
-        return RunReply::Malformed;
-    };
-    if out.len() < 513 {
-        return RunReply::ShortBuffer;
+    match found {
+        RecordVerdict::Faulty(fault) => RunReply::Refused(book::record_refusal(fault)),
+        RecordVerdict::Whole(nodes) => {
+            if out.len() < 513 {
+                return RunReply::Refused(Refusal::ShortBuffer);
+            }
+            run_record(book, places, record, 2 * nodes, budget, out)
+        }
     }
-    run_record(book, places, record, 2 * nodes, budget, out)
 }
 
 // Runs a record under a book that the ranks clear, against a budget. The start of the lent buffer then holds the term reached with its end
@@ -180,9 +154,13 @@ pub fn run(book: &[u8], ranks: &[u8], record: &[u8], budget: u64, out: &mut [u8]
 {
     let read = book::read_book(book);
     let verdict = read.verdict;
-    let BookVerdict::Readable = verdict else {
-        return RunReply::Unreadable(verdict);
-    };
+    if let BookVerdict::Refused(refusal) = verdict {
+        return RunReply::Refused(refusal);
+    }
     let places = read.book;
-    run_read(book, places, ranks, record, budget, out)
+    let cleared = order::ranks_clear(book, places, ranks);
+    if let RanksVerdict::Refused(refusal) = cleared {
+        return RunReply::Refused(refusal);
+    }
+    run_cleared(book, places, record, budget, out)
 }

@@ -4,7 +4,7 @@ use mathlib.Core.List.{List}
 use mathlib.Core.Path.{_≡_, ap, _∙_}
 use Rattle.reply.specs.Reply.{Reply}
 use Rattle.reply.specs.Lent.{laid}
-use Rattle.rewriting.specs.Run.{Ran, ranBytes}
+use Rattle.steps.specs.Run.{Ran, ranBytes}
 use Rattle.rewriting.specs.RunMeaning.{runTold, runMeaning, RunsTo}
 use Rattle.rewriting.specs.declared.running.RunReply.{RunReply}
 use Rattle.rulebook.specs.Replies.{ranReply}

@@ -5,9 +5,9 @@ use lib.ListN.{length}
 use Rattle.reply.specs.Reply.{Reply, given, refused}
 use Rattle.book.specs.Book.{Book, symbols}
 use Rattle.clauses.specs.File.{fileBlocks}
-use Rattle.rewriting.specs.Run.{Outcome, done, spent, tooLarge}
+use Rattle.steps.specs.Run.{Outcome, done, spent, tooLarge}
 use Rattle.rewriting.specs.RunMeaning.{Told}
-use Rattle.rewriting.specs.Argument.{Part}
+use Rattle.steps.specs.Argument.{Part}
 use Rattle.rulebook.specs.declared.replies.Verdict.{Verdict}
 use Rattle.rulebook.specs.declared.replies.BookReply.{BookReply}
 use Rattle.rulebook.specs.declared.replies.WrittenReply.{WrittenReply}

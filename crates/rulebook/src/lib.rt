@@ -23,9 +23,9 @@ ghost use Rattle.book.specs.Reading.{readBook};
 ghost use Rattle.order.specs.Clearing.{checkRanks};
 ghost use Rattle.clauses.specs.File.{block};
 ghost use Rattle.answer.specs.Ranks.{ranksFromAnswer};
-ghost use Rattle.rewriting.specs.Run.{run, ranBytes};
+ghost use Rattle.steps.specs.Run.{run, ranBytes};
 ghost use Rattle.rewriting.specs.RunMeaning.{runTold};
-ghost use Rattle.rewriting.specs.Argument.{argument};
+ghost use Rattle.steps.specs.Argument.{argument};
 ghost use Rattle.rulebook.specs.Replies.{verdictReply, bookReply, writtenReply, ranReply, partReply};
 
 // Reads a book.

@@ -21,16 +21,16 @@ use Rattle.book.specs.Reading.{readBook}
 use Rattle.book.specs.Record.{readRecord}
 use Rattle.book.specs.declared.BookVerdict.{BookVerdict}
 use Rattle.order.specs.Clearing.{ranksClear}
-use Rattle.rewriting.specs.Step.{stepOf}
-use Rattle.rewriting.specs.Run.{Outcome, done, spent, tooLarge, Ran, runFrom, ranOn, run, ranBytes}
+use Rattle.steps.specs.Step.{stepOf}
+use Rattle.steps.specs.Run.{Outcome, done, spent, tooLarge, Ran, runFrom, ranCleared, run, ranBytes}
 use Rattle.rewriting.specs.RunMeaning.{Told, toldOf, runTold, runMeaning, RunsTo}
 use Rattle.rewriting.specs.Asked.{unreadable}
 use Rattle.rewriting.specs.Turns.{outcomeOf}
 use Rattle.rewriting.specs.declared.running.RunReply.{RunReply}
 use Rattle.rewriting.specs.declared.running.RunReply.the-variants.{RanTo, Unreadable, WrongCount, NotDecreasing, Malformed, ShortBuffer}
-use Rattle.rewriting.specs.declared.stepping.Outcome.the-variants.{Done, Spent, TooLarge}
+use Rattle.stepping.specs.declared.Outcome.the-variants.{Done, Spent, TooLarge}
 use Rattle.rewriting.proofs.running.RunReply.{the-type as run-reply}
-use Rattle.rewriting.proofs.Run.{run-done, run-spent, run-too-large, run-goes-on}
+use Rattle.steps.proofs.Run.{run-done, run-spent, run-too-large, run-goes-on}
 use Rattle.rewriting.proofs.RanOn.{refusalIn, unread-refused}
 use Rattle.demands.specs.BudgetsAdd.{counting, carriedOn, BudgetsAdd}
 use Rattle.demands.proofs.BudgetsAdd.{run-budgets-add}
@@ -81,9 +81,9 @@ module _ {R A B : Type 0} (r : R) where
 -- A refusal does not depend on the budget.
 refused-alike :
     (bytes ranks record′ : Bytes) (a c room : ℕ) (r : Refusal) → run bytes ranks record′ a room ≡ refused r → run bytes ranks record′ c room ≡ refused r
-unfolding run ranOn
+unfolding run ranCleared
 refused-alike bytes ranks record′ a c room r =
-    bind-alike r (readBook bytes) (λ b. ranOn b ranks record′ a room) (λ b. ranOn b ranks record′ c room) (λ b.
+    bind-alike r (readBook bytes) (λ b. _>>_ (ranksClear b ranks) (ranCleared b record′ a room)) (λ b. _>>_ (ranksClear b ranks) (ranCleared b record′ c room)) (λ b.
     then-alike r (ranksClear b ranks) _ _
     (bind-alike r (readRecord b record′) _ _ (λ t.
     then-alike r (unless (leb 513 room) (9 at 0)) (given (runFrom (b .rules) a 0 t)) (given (runFrom (b .rules) c 0 t)) (λ h. absurd (given-not-refused _ r h)))))

@@ -5,11 +5,11 @@ use mathlib.Core.Path.{_≡_}
 use lib.ListN.{length, take}
 use Rattle.reply.specs.Reply.{Reply, given, _>>=_}
 use Rattle.term.specs.Prefix.{recordBytes}
-use Rattle.rewriting.specs.Run.{Ran}
+use Rattle.steps.specs.Run.{Ran}
 use Rattle.rewriting.specs.RunMeaning.{Told, runTold, runMeaning}
 use Rattle.rewriting.specs.declared.running.RunReply.{RunReply}
 use Rattle.rewriting.specs.declared.running.RunReply.the-variants.{RanTo, Unreadable, WrongCount, NotDecreasing, Malformed, ShortBuffer}
-use Rattle.rewriting.specs.declared.stepping.Outcome.the-variants.{Done, Spent, TooLarge}
+use Rattle.stepping.specs.declared.Outcome.the-variants.{Done, Spent, TooLarge}
 use Rattle.demands.specs.BudgetsAdd.{counting}
 use Rattle.slices.specs.declared.Going.{Going}
 use Rattle.slices.specs.declared.Going.the-variants.{On, Ended}

@@ -6,7 +6,7 @@ ghost use Prim.Native.Nat.{_+_, _≤_, _<_, _^_, min};
 ghost use mathlib.Core.Path.{_≡_};
 ghost use lib.ListN.{length, take};
 ghost use Rattle.reply.specs.Reply.{given};
-ghost use Rattle.rewriting.specs.Run.{run};
+ghost use Rattle.steps.specs.Run.{run};
 ghost use Rattle.rewriting.specs.RunMeaning.{Told, runMeaning};
 ghost use Rattle.slices.specs.Sliced.{OneRun, laterOn, toldLater, goingOf};
 

@@ -10,7 +10,7 @@ use lib.Seq.{take-append-seam, length-take-le}
 use Rattle.reply.specs.Reply.{Reply}
 use Rattle.term.specs.Copied.{copied, overlaid}
 use Rattle.term.proofs.Copied.{copied-whole}
-use Rattle.rewriting.specs.Run.{Ran, run}
+use Rattle.steps.specs.Run.{Ran, run}
 use Rattle.rewriting.specs.RunMeaning.{RunsTo}
 use Rattle.slices.proofs.AddUp.{told-within, later-run}
 use Rattle.slices.proofs.carry_on.Statement.{statement}

@@ -1,7 +1,7 @@
 -- Only a spent run goes on. Assumes nothing.
 use mathlib.Core.Path.{sym, ap, _∙_}
 use borrow.Author.Needs.{needs}
-use Rattle.rewriting.specs.declared.stepping.Outcome.{Outcome}
+use Rattle.stepping.specs.declared.Outcome.{Outcome}
 use Rattle.rewriting.specs.declared.running.RunReply.the-variants.{RanTo}
 use Rattle.slices.specs.Sliced.{goingOf}
 use Rattle.slices.proofs.AddUp.{refused-ends}

@@ -7,7 +7,7 @@ use borrow.Author.Needs.{needs}
 use denote.Ref.{now}
 use lib.ListN.{length}
 use Rattle.reply.specs.Reply.{Reply}
-use Rattle.rewriting.specs.Run.{Ran, run}
+use Rattle.steps.specs.Run.{Ran, run}
 use Rattle.rewriting.specs.RunMeaning.{RunsTo}
 use Rattle.rewriting.specs.declared.running.RunReply.{RunReply}
 use Rattle.slices.specs.Sliced.{OneRun}

@@ -5,7 +5,7 @@ use native.Mathlib.Omega.{arith}
 use borrow.Author.Needs.{needs}
 use denote.Ref.{now}
 use lib.ListN.{length, drop}
-use Rattle.rewriting.specs.Argument.{Part}
+use Rattle.steps.specs.Argument.{Part}
 use Rattle.rewriting.specs.Asked.{partBytes}
 use Rattle.rewriting.proofs.HandedOut.{found-inside, found-bytes, found-start, refused-part}
 use Rattle.rewriting.proofs.asking.argument.Statement.{statement}
@@ -30,7 +30,10 @@ part-result-start : tie.Need-part-result-start
 part-result-start c = search needs
 
 part-result-end : tie.Need-part-result-end
-part-result-end c = inside c
+part-result-end c = omega (arith, inside c)
+
+enum-told : tie.Need-enum-told
+enum-told c = search needs
 
 sub-result-2 : tie.Need-sub-result-2
 sub-result-2 c = search needs
@@ -50,8 +53,8 @@ returns c =
 returns-2 : tie.Need-returns-2
 unfolding partBytes
 returns-2 c =
-    let none = refused-part _ _ _ _ (c .before .before .argument-reply .ensures) (c .before .match .keys2) in
-    (ap (λ (p : Part). partBytes p (now (c .before .before .before .before .before .args .«record»))) (sym none), (refl, omega (arith, ap (λ (p : Part). p .start) none)))
+    let none = refused-part _ _ _ _ (c .before .before .before .argument-reply .ensures) (c .before .enum-told .given .1) in
+    (ap (λ (p : Part). partBytes p (now (c .before .before .before .before .before .before .args .«record»))) (sym none), (refl, omega (arith, ap (λ (p : Part). p .start) none)))
 
 pub argument-spec : {M : Type 1} → statement M
 argument-spec =
@@ -63,6 +66,7 @@ argument-spec =
     sub-result
     part-result-start
     part-result-end
+    enum-told
     sub-result-2
     part-result-start-2
     part-result-end-2

@@ -5,6 +5,7 @@ use mathlib.Core.List.{List}
 use mathlib.Core.Path.{_≡_, sym, _∙_}
 use native.Mathlib.Omega.{arith}
 use denote.Ref.{now}
+use Rattle.reply.specs.Refusals.{numbered}
 use Rattle.term.specs.Term.{Term, count}
 use Rattle.term.specs.Root.{arguments}
 use Rattle.term.specs.At.{At, Standing}
@@ -25,7 +26,7 @@ arguments-at-requires : tie.Need-arguments-at-requires Inv-loop μ-loop
 arguments-at-requires c κs = c .before .pre
 
 returns : tie.Need-returns Inv-loop μ-loop
-unfolding argumentMeaning
+unfolding argumentMeaning numbered
 returns c t e h = sym (no-such-argument t _ (omega (arith, c .before .arguments-at .ensures t e h, c .if1 .taken)))
 
 loop-holds : tie.Need-loop-holds Inv-loop μ-loop

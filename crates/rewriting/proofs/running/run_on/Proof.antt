@@ -10,24 +10,24 @@ use denote.Ref.{now}
 use lib.ListN.{length as long}
 use Rattle.term.specs.Term.{Term}
 use Rattle.book.specs.Book.{Rule}
-use Rattle.rewriting.specs.Places.{RulesAt}
+use Rattle.stepping.specs.Places.{rulesIn}
 use Rattle.rewriting.specs.Turns.{TermIn, Holding, Turned}
-use Rattle.rewriting.specs.declared.stepping.Stepped.the-variants.{Made}
+use Rattle.stepping.specs.declared.Stepped.the-variants.{Made}
 use Rattle.rewriting.proofs.TakingTurns.{Onward, run-begins, steps-remain, run-goes, run-ends}
 use Rattle.rewriting.proofs.running.run_on.Statement.{statement}
 use Rattle.rewriting.proofs.running.run_on.Tie as tie
 
 abbrev Inv-loop : tie.InvT-loop
 Inv-loop book places one₀ other₀ length budget steps₀ in-one₀ size₀ one other steps in-one size =
-    ((rules : List Rule) (t : Term) → RulesAt book places rules → TermIn (places .arities) true one₀ other₀ length t →
-    Onward (places .arities) rules t budget one other steps in-one size) ×
+    ((t : Term) → TermIn (places .arities) true one₀ other₀ length t →
+    Onward (places .arities) (rulesIn book places) t budget one other steps in-one size) ×
     (long one ≡ long one₀) × (long other ≡ long other₀)
 
 abbrev μ-loop : tie.MeasureT-loop
 μ-loop book places one₀ other₀ length budget steps₀ in-one₀ size₀ one other steps in-one size = budget - steps
 
 loop-holds : tie.Need-loop-holds Inv-loop μ-loop
-loop-holds c = (λ rules t h k. run-begins _ k (c .before .before .before .pre .1 .small), refl, refl)
+loop-holds c = (λ t k. run-begins _ k (c .before .before .before .pre .1 .small), refl, refl)
 
 -- At the loop's head: the run of the term that stood there.
 module _ (c : tie.At-loop Inv-loop μ-loop) where
@@ -35,9 +35,9 @@ module _ (c : tie.At-loop Inv-loop μ-loop) where
   start = c .before .before .before .before
 
   onward :
-      Onward (start .args .places .arities) (start .pre .0 .rules) (start .pre .1 .term) (start .args .budget) (c .loop .one) (c .loop .other) (c .loop .steps)
+      Onward (start .args .places .arities) (rulesIn (now (start .args .book)) (start .args .places)) (start .pre .1 .term) (start .args .budget) (c .loop .one) (c .loop .other) (c .loop .steps)
       (c .loop .in-one) (c .loop .size)
-  onward = c .loop .inv .0 (start .pre .0 .rules) (start .pre .1 .term) (start .pre .0 .stand) (start .pre .1 .stands)
+  onward = c .loop .inv .0 (start .pre .1 .term) (start .pre .1 .stands)
 
   holding : Holding (start .args .places .arities) (c .loop .in-one) (c .loop .one) (c .loop .other) (c .loop .size)
   holding = record {
@@ -68,6 +68,9 @@ module _ (c : tie.After-turn Inv-loop μ-loop) where
   abbrev other-after : List ℕ
   other-after = c .turn .last .1 .1 .1 .0
 
+  abbrev rules : List Rule
+  rules = rulesIn (now (start head .args .book)) (start head .args .places)
+
   one-kept : long one-after ≡ long (now (start head .args .one))
   one-kept = c .turn .kept .1 .1 .0 ∙ head .loop .inv .1
 
@@ -75,20 +78,19 @@ module _ (c : tie.After-turn Inv-loop μ-loop) where
   other-kept = c .turn .kept .1 .1 .1 .0 ∙ head .loop .inv .2
 
   module _
-      {rules : List Rule} {t : Term} (h : RulesAt (now (start head .args .book)) (start head .args .places) rules)
-      (k : TermIn (start head .args .places .arities) true (now (start head .args .one)) (now (start head .args .other)) (start head .args .length) t) where
+      {t : Term} (k : TermIn (start head .args .places .arities) true (now (start head .args .one)) (now (start head .args .other)) (start head .args .length) t) where
     abbrev came : Onward (start head .args .places .arities) rules t (start head .args .budget) (head .loop .one) (head .loop .other) (head .loop .steps) (head .loop .in-one) (head .loop .size)
-    came = head .loop .inv .0 rules t h k
+    came = head .loop .inv .0 t k
 
     turned :
         Turned (start head .args .places .arities) rules (came .term) (start head .args .budget - head .loop .steps) (head .loop .in-one) (head .loop .one)
         (head .loop .other) one-after other-after (c .turn .result)
-    turned = c .turn .ensures rules (came .term) h (came .stands)
+    turned = c .turn .ensures (came .term) (came .stands)
 
   more : {next : ℕ} → c .turn .result ≡ Made next → head .loop .steps < start head .args .budget
   more is =
       let holding = start head .pre .1 in
-      steps-remain (came (start head .pre .0 .stand) (holding .stands)) (c .turn .result) (turned (start head .pre .0 .stand) (holding .stands)) is
+      steps-remain (came (holding .stands)) (c .turn .result) (turned (holding .stands)) is
 
 same-length : tie.Need-same-length Inv-loop μ-loop
 same-length c = one-kept (c .before .before .before .before .before .before .before)
@@ -97,9 +99,9 @@ same-length-2 : tie.Need-same-length-2 Inv-loop μ-loop
 same-length-2 c = other-kept (c .before .before .before .before .before .before .before)
 
 returns : tie.Need-returns Inv-loop μ-loop
-returns c rules t h k =
+returns c t k =
     let after = c .before .before .before .before .before .before .before in
-    run-ends (came after h k) (after .turn .result) (turned after h k) (c .before .stepped .given .1)
+    run-ends (came after k) (after .turn .result) (turned after k) (c .before .stepped .given .1)
 
 enum-known-stepped-2 : tie.Need-enum-known-stepped-2 Inv-loop μ-loop
 enum-known-stepped-2 c = search needs
@@ -115,7 +117,7 @@ loop-less c = let after = c .before .before .before .before .before .before .bef
 loop-again : tie.Need-loop-again Inv-loop μ-loop
 loop-again c =
     let after = c .before .before .before .before .before .before .before in
-    (λ rules t h k. run-goes (came after h k) (after .turn .result) (turned after h k) (c .before .stepped2 .given .1), one-kept after, other-kept after)
+    (λ t k. run-goes (came after k) (after .turn .result) (turned after k) (c .before .stepped2 .given .1), one-kept after, other-kept after)
 
 pub run-on-spec : {M : Type 1} → statement M
 run-on-spec =

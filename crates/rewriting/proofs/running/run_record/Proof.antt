@@ -11,8 +11,7 @@ use lib.ListN.{length, replicate, set, length-set}
 use Rattle.term.specs.Term.{Term}
 use Rattle.term.specs.At.{At}
 use Rattle.term.specs.Copied.{copied, overlaid}
-use Rattle.book.specs.Book.{Rule}
-use Rattle.rewriting.specs.Places.{RulesAt}
+use Rattle.stepping.specs.Places.{rulesIn}
 use Rattle.rewriting.specs.Turns.{held, TermIn, RunTo}
 use Rattle.rewriting.specs.declared.running.Reached.{Reached}
 use Rattle.rewriting.proofs.RecordRuns.{term-copied, record-run-in, from-one, from-other}
@@ -90,10 +89,9 @@ module _ (c : tie.Joined1) where
   out = now (start before-run .args .out)
 
   ran :
-      {rules : List Rule} {t : Term} → RulesAt (now (start before-run .args .book)) (start before-run .args .places) rules →
-      At (now (start before-run .args .«record»)) (start before-run .args .places .arities) 0 t (start before-run .args .size) →
-      RunTo (start before-run .args .places .arities) rules t (start before-run .args .budget) one other reached
-  ran {rules} {t} h k = c .before .before .before .run-on .ensures rules t h (in-buffer before-run k)
+      {t : Term} → At (now (start before-run .args .«record»)) (start before-run .args .places .arities) 0 t (start before-run .args .size) →
+      RunTo (start before-run .args .places .arities) (rulesIn (now (start before-run .args .book)) (start before-run .args .places)) t (start before-run .args .budget) one other reached
+  ran {t} k = c .before .before .before .run-on .ensures t (in-buffer before-run k)
 
   laid-down : c .if1 .out ≡ overlaid (copied (held (reached .«in_one») one other) 0 (reached .length) (length out)) out
   laid-down =
@@ -110,7 +108,7 @@ module _ (c : tie.Joined1) where
   as-long = ⊎-elim (λ w. ap length (w .6) ∙ w .3 .kept .1 .1 .1 .0) (λ w. ap length (w .6) ∙ w .3 .kept .1 .1 .1 .0) (c .if1 .came)
 
   small : reached .length ≤ 512
-  small = ran (start before-run .pre .0 .stand) (start before-run .pre .1 .0 .stands) .small
+  small = ran (start before-run .pre .1 .0 .stands) .small
 
 slice-write-out : tie.Need-slice-write-out
 slice-write-out c = omega (arith, small c, as-long c, start (before-run c) .pre .1 .1)
@@ -122,7 +120,7 @@ same-length : tie.Need-same-length
 same-length c = length-set (c .if1 .out) (reached c .length) 5 ∙ as-long c
 
 returns : tie.Need-returns
-returns c rules t h k = record-run-in (ran c h k) (out c) (start (before-run c) .pre .1 .1) (c .if1 .out) (laid-down c)
+returns c t k = record-run-in (ran c k) (out c) (start (before-run c) .pre .1 .1) (c .if1 .out) (laid-down c)
 
 pub run-record-spec : {M : Type 1} → statement M
 run-record-spec =

@@ -46,11 +46,11 @@ same-length-2 : tie.Need-same-length-2
 same-length-2 c = search needs
 
 returns : tie.Need-returns
-returns c rules t h k =
+returns c t k =
     let start = c .before .before .before .before .before .before .before .before .before in
     let in-one-now = c .before .before .before .before .before .if1 .taken in
     turned-in-one in-one-now
-    (c .before .before .step .ensures rules t h (whole-in-one (one start) (other start) (start .args .length) in-one-now (in-one start) k))
+    (c .before .before .step .ensures t (whole-in-one (one start) (other start) (start .args .length) in-one-now (in-one start) k))
 
 slice-reshare-prefix-step-2 : tie.Need-slice-reshare-prefix-step-2
 slice-reshare-prefix-step-2 c = in-other (c .before .before .before .before)
@@ -73,11 +73,11 @@ same-length-4 : tie.Need-same-length-4
 same-length-4 c = search needs
 
 returns-2 : tie.Need-returns-2
-returns-2 c rules t h k =
+returns-2 c t k =
     let start = c .before .before .before .before .before .before .before .before .before in
     let in-other-now = c .before .before .before .before .before .if1 .left in
     turned-in-other in-other-now
-    (c .before .before .step2 .ensures rules t h (whole-in-other (one start) (other start) (start .args .length) in-other-now (in-other start) k))
+    (c .before .before .step2 .ensures t (whole-in-other (one start) (other start) (start .args .length) in-other-now (in-other start) k))
 
 pub turn-spec : {M : Type 1} → statement M
 turn-spec =

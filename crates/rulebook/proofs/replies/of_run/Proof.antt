@@ -6,7 +6,7 @@ use Rattle.rewriting.specs.RunMeaning.{runMeaning}
 use Rattle.rewriting.specs.Turns.{outcomeOf}
 use Rattle.rewriting.specs.declared.running.RunReply.{RunReply}
 use Rattle.rewriting.specs.declared.running.RunReply.the-variants.{RanTo}
-use Rattle.rewriting.specs.declared.stepping.Outcome.{Outcome}
+use Rattle.stepping.specs.declared.Outcome.{Outcome}
 use Rattle.rulebook.specs.Replies.{outcomeNumber, ranReply}
 use Rattle.rulebook.specs.declared.replies.Verdict.{Verdict}
 use Rattle.rulebook.specs.declared.replies.RanReply.{RanReply}

@@ -3,7 +3,7 @@ use Prim.Native.Nat.{ℕ}
 use mathlib.Core.Path.{sym, ap}
 use borrow.Author.Needs.{needs}
 use Rattle.rewriting.specs.Turns.{outcomeOf}
-use Rattle.rewriting.specs.declared.stepping.Outcome.{Outcome}
+use Rattle.stepping.specs.declared.Outcome.{Outcome}
 use Rattle.rulebook.specs.Replies.{outcomeNumber}
 use Rattle.rulebook.proofs.replies.outcome_number.Statement.{statement}
 use Rattle.rulebook.proofs.replies.outcome_number.Tie as tie

@@ -1,0 +1,73 @@
+-- The rules of a book and the place of a step, where they stand in bytes.
+use Prim.Native.Nat.{ℕ, _+_, _*_, _<_, _≤_}
+use mathlib.Core.Bool.{true, false}
+use mathlib.Core.List.{List, _++_}
+use mathlib.Core.Option.{none, some}
+use mathlib.Core.Path.{_≡_}
+use lib.ListN.{length, getD, take, drop}
+use Rattle.term.specs.Term.{Term, size}
+use Rattle.term.specs.Replacement.{Occurs}
+use Rattle.term.specs.Prefix.{prefix}
+use Rattle.term.specs.At.{At}
+use Rattle.book.specs.Book.{Rule}
+use Rattle.book.specs.Meaning.{bookAt}
+use Rattle.book.specs.WasRead.{ReadFrom}
+use Rattle.book.specs.declared.Book.{Book as Places}
+use Rattle.steps.specs.Fits.{matching}
+use Rattle.steps.specs.Step.{NoNewVariable, ruleOf, chosen, applied, stepOf}
+use Rattle.building.specs.Right.{startOf, TermAt}
+use Rattle.building.specs.declared.Fit.{Fit}
+use Rattle.building.specs.declared.Place.{Place}
+
+-- The rules of a read book.
+abbrev pub rulesIn : (bytes : List ℕ) → Places → List Rule
+rulesIn bytes places = bookAt bytes places .rules
+
+-- A book that can be run: it was read from these bytes, and no rule of it brings a new variable. How that was found out is not asked.
+pub record Runnable (bytes : List ℕ) (places : Places) : Type 0 where
+  pub read : ReadFrom bytes places
+  pub noNew : NoNewVariable (rulesIn bytes places)
+
+-- What looking for a rule that fits asks: so many left sides stand where the two tables say.
+pub record LeftsAt (bytes arities : List ℕ) (many : ℕ) (starts nodes : List ℕ) (rules : List Rule) : Type 0 where
+  pub counted : many ≡ length rules
+  pub few : length rules ≤ 32
+  pub lefts : (i : ℕ) → i < length rules → At bytes arities (getD starts i 0) (ruleOf rules i .left) (getD starts i 0 + 2 * getD nodes i 0)
+  pub variables : (i : ℕ) → i < length rules → (x : ℕ) → Occurs x (ruleOf rules i .left) → x < 16
+
+-- Some left sides stand there.
+pub record Lefts (bytes arities : List ℕ) (many : ℕ) (starts nodes : List ℕ) : Type 0 where
+  pub rules : List Rule
+  pub stand : LeftsAt bytes arities many starts nodes rules
+
+-- The bytes are those of a term.
+pub record Whole (bytes arities : List ℕ) : Type 0 where
+  pub term : Term
+  pub stands : At bytes arities 0 term (length bytes)
+
+-- The rule that the step takes at s, with its match.
+pub record Applies (bytes arities : List ℕ) (rules : List Rule) (s : Term) (fit : Fit) : Type 0 where
+  pub declared : fit .rule < length rules
+  pub isChosen : chosen rules s ≡ some (ruleOf rules (fit .rule))
+  pub variables :
+      (x : ℕ) → Occurs x (ruleOf rules (fit .rule) .left) →
+      TermAt bytes arities (startOf (fit .table) x) (matching (ruleOf rules (fit .rule) .left) s x)
+
+-- Whether some rule fits s, and then which.
+pub record FirstRule (bytes arities : List ℕ) (rules : List Rule) (s : Term) (fit : Fit) : Type 0 where
+  pub noRule : fit .table .fits ≡ false → chosen rules s ≡ none
+  pub aRule : fit .table .fits ≡ true → Applies bytes arities rules s fit
+
+-- The subterm of the step: it stands from `at` to `end`, and the step puts there what the rule makes of it.
+pub record StepAt (bytes arities : List ℕ) (rules : List Rule) (t : Term) (place : Place) : Type 0 where
+  pub subterm : Term
+  pub stands : At bytes arities (place .at) subterm (place .end)
+  pub applies : Applies bytes arities rules subterm (place .fit)
+  pub next : Term
+  pub isNext : stepOf rules t ≡ some next
+  pub nextBytes : prefix next ≡ take (place .at) bytes ++ (prefix (applied (ruleOf rules (place .fit .rule)) subterm) ++ drop (place .end) bytes)
+
+-- "the first place in postorder at which some rule fits", if there is one.
+pub record FirstPlace (bytes arities : List ℕ) (rules : List Rule) (t : Term) (place : Place) : Type 0 where
+  pub nowhere : place .fit .table .fits ≡ false → stepOf rules t ≡ none
+  pub there : place .fit .table .fits ≡ true → StepAt bytes arities rules t place

@@ -1,0 +1,14 @@
+pub mod Cases
+pub mod Fits
+pub mod Joined
+pub mod Chosen
+pub mod OwnStep
+pub mod StepBytes
+pub mod Finitely
+pub mod Bound
+pub mod Run
+pub mod NoNewVariable
+pub mod RanCleared
+pub mod ArgumentAsked
+pub mod StaysOver
+pub mod StaysARecord

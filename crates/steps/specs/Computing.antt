@@ -1,0 +1,10 @@
+-- A key for computed cases: what opens it may compute with every definition of this crate and of those below.
+use Rattle.order.specs.Computing
+use Rattle.steps.specs.Fits.{Fits, standing, bound, matching, fits}
+use Rattle.steps.specs.Step.{chosen, applied, rewritten, stepOf}
+use Rattle.steps.specs.Run.{runFrom, ranCleared, run, ranBytes}
+use Rattle.steps.specs.Argument.{partOf, argumentOf, argument}
+
+unfoldable pub computing : Unit {0}
+unfolding Computing.computing Fits standing bound matching fits chosen applied rewritten stepOf runFrom ranCleared run ranBytes partOf argumentOf argument
+computing = tt

@@ -1,0 +1,5 @@
+pub mod Fits
+pub mod Step
+pub mod Run
+pub mod Argument
+pub mod Computing
