@@ -2,40 +2,24 @@
 use Prim.Native.Nat.{ℕ, zero, suc, _+_, pred, _≤_, _<_}
 use mathlib.Core.List.{List, [], _∷_, _++_, List·Memᴰ, List·Memᴰ·append-cases, List·Memᴰ·eq-of-singleton, List·Memᴰ·not-nil}
 use mathlib.Core.Logic.{_⊎_, inl, inr}
-use mathlib.Core.Path.{_≡_, refl, subst}
+use mathlib.Core.Path.{_≡_, refl, ap, subst}
 use native.Mathlib.Omega.{arith}
 use lib.Dec.{T, eqb, leb→le, ltb→lt}
-use lib.ListN.{length, getD, drop, length-append}
-use Rattle.reply.specs.Reply.{given, _at_}
-use Rattle.term.specs.Tables.{Kind, unknown, symbol, rule, symbolNode, variableNode, end, kindOf, bodyLength}
+use lib.ListN.{length, getD, take, drop, length-append}
+use Rattle.reply.specs.Reply.{given}
+use Rattle.reply.specs.declared.Refusal.the-variants.{BookEnded}
+use Rattle.term.specs.Tables.{Kind, unknown, symbol, rule, symbolNode, variableNode, end, kindOf, bodyLength, bodyLengths}
 use Rattle.term.specs.Term.{Term}
 use Rattle.term.specs.Prefix.{Node, symbolic, variable, arityOf, tree}
-use Rattle.reply.proofs.Given.{refused-not-given, bind-given, unless-given, either-given}
+use Rattle.reply.proofs.Given.{refused-not-given, bind-given, then-given, either-given, told-given}
 use Rattle.term.proofs.Prefix.{Allowed, declared, standing, Leaves, noNode, leaves-next, leaves-variable, TreeOf, tree-fills}
 use Rattle.book.specs.Book.{Book, Rule, symbols}
 use Rattle.book.specs.Limits.{SideWithinLimits, WithinLimits}
-use Rattle.book.specs.Reading.{
-  Stage,
-  beforeRules,
-  inLeft,
-  inRight,
-  ruleWhole,
-  State,
-  noRuleYet,
-  sideNodes,
-  allowed,
-  bodyFits,
-  roomLeft,
-  leftAfter,
-  rightAfter,
-  nodeAt,
-  next,
-  recordAt,
-  ended,
-  readFrom,
-  start,
-  readBook,
-}
+use Rattle.book.specs.Checks.{allowed, bodyFits, roomLeft}
+use Rattle.book.specs.Sides.{noRuleYet, noSide}
+use Rattle.book.specs.Reading.{Stage, beforeRules, inLeft, inRight, ruleWhole, State, sideOf, leftAfter, rightAfter, nodeAt, next, recordAt, ended, readFrom, start, readBook}
+use Rattle.book.proofs.Tests.{Passed, passed}
+use Rattle.book.proofs.KindNumbers.{by-kind}
 
 -- The nodes of a side that is open: so many subterms are missing, one at least, and there are at most ten nodes.
 record Open (arities : List ℕ) (missing : ℕ) (nodes : List Node) : Type 0 where
@@ -113,8 +97,8 @@ module _ (s : State) (kept : Kept s) where
 
   node-kept :
       (stage : Stage) (this : Node) → StageKept (s .arities) (s .rules) stage → Allowed (s .arities) (λ x. x ≤ 15) this →
-      length (sideNodes stage) < 10 → Kept (nodeAt stage s this)
-  unfolding nodeAt sideNodes
+      sideOf stage .nodes < 10 → Kept (nodeAt stage s this)
+  unfolding nodeAt sideOf
   node-kept beforeRules this k ok few = kept
   node-kept (inLeft m ns) this k ok few =
       left-after-kept (pred m + arityOf (s .arities) this) (ns ++ (this ∷ [])) (k .0) (leaves-next m (k .1 .some-missing) (k .1 .filled) ok)
@@ -125,9 +109,10 @@ module _ (s : State) (kept : Kept s) where
   node-kept ruleWhole this k ok few = kept
 
   -- Symbols come before any rule.
-  symbol-kept : (b : ℕ) → T (noRuleYet (s .stage)) → b ≤ 6 → length (s .arities) < 16 → Kept (next symbol s b)
-  unfolding next noRuleYet
-  symbol-kept b before small room =
+  symbol-kept : (body : List ℕ) → T (noRuleYet (sideOf (s .stage) .stage)) → getD body 0 0 ≤ 6 → length (s .arities) < 16 → Kept (next symbol s body)
+  unfolding next noRuleYet sideOf noSide
+  symbol-kept body before small room =
+      let b = getD body 0 0 in
       let none : (s .rules ≡ []) × StageKept (s .arities ++ (b ∷ [])) (s .rules) (s .stage) = go (s .stage) before (kept .stage) in
       record {
         settled =
@@ -140,33 +125,39 @@ module _ (s : State) (kept : Kept s) where
       }
     where
       go :
-          (stage : Stage) → T (noRuleYet stage) → StageKept (s .arities) (s .rules) stage →
-          (s .rules ≡ []) × StageKept (s .arities ++ (b ∷ [])) (s .rules) stage
+          (stage : Stage) → T (noRuleYet (sideOf stage .stage)) → StageKept (s .arities) (s .rules) stage →
+          (s .rules ≡ []) × StageKept (s .arities ++ (getD body 0 0 ∷ [])) (s .rules) stage
       go beforeRules before k = (k, k)
       go (inLeft m ns) before k = absurd before
       go (inRight l m ns) before k = absurd before
       go ruleWhole before k = absurd before
 
-  next-kept : (kind : Kind) (b : ℕ) → T (allowed kind (s .stage)) → T (bodyFits kind s b) → T (roomLeft kind s) → Kept (next kind s b)
-  unfolding allowed bodyFits roomLeft next
-  next-kept unknown b here fits room = kept
-  next-kept symbol b here fits room = symbol-kept b here (leb→le b 6 fits) (ltb→lt (length (s .arities)) 16 room)
-  next-kept rule b here fits room = record { settled = kept .settled; stage = (ltb→lt (length (s .rules)) 32 room, opened (s .arities)) }
-  next-kept symbolNode b here fits room =
-      node-kept (s .stage) (symbolic b) (kept .stage) (declared (ltb→lt b (length (s .arities)) fits)) (ltb→lt (length (sideNodes (s .stage))) 10 room)
-  next-kept variableNode b here fits room =
-      node-kept (s .stage) (variable b) (kept .stage) (standing (leb→le b 15 fits)) (ltb→lt (length (sideNodes (s .stage))) 10 room)
-  next-kept end b here fits room = kept
+  next-kept : (k : ℕ) (body : List ℕ) → Passed k body (sideOf (s .stage)) (length (s .arities)) (length (s .rules)) → Kept (next (kindOf k) s body)
+  unfolding allowed bodyFits roomLeft next bodyLength bodyLengths
+  next-kept k body tests =
+      let byte : (n : ℕ) → k ≡ n → bodyLength n ≡ 1 → 0 < length body = λ n is one. omega (arith, tests .whole, ap bodyLength is) in
+      by-kind
+      (λ (kind : Kind).
+      T (allowed kind (sideOf (s .stage) .stage)) → (0 < length body → T (bodyFits kind (length (s .arities)) (getD body 0 0))) →
+      T (roomLeft kind (length (s .arities)) (length (s .rules)) (sideOf (s .stage) .nodes)) → Kept (next kind s body))
+      k
+      (λ u here fits room. kept)
+      (λ is here fits room. symbol-kept body here (leb→le (getD body 0 0) 6 (fits (byte 1 is refl))) (ltb→lt (length (s .arities)) 16 room))
+      (λ is here fits room. record { settled = kept .settled; stage = (ltb→lt (length (s .rules)) 32 room, opened (s .arities)) })
+      (λ is here fits room.
+      node-kept (s .stage) (symbolic (getD body 0 0)) (kept .stage) (declared (ltb→lt (getD body 0 0) (length (s .arities)) (fits (byte 3 is refl))))
+      (ltb→lt (sideOf (s .stage) .nodes) 10 room))
+      (λ is here fits room.
+      node-kept (s .stage) (variable (getD body 0 0)) (kept .stage) (standing (leb→le (getD body 0 0) 15 (fits (byte 4 is refl))))
+      (ltb→lt (sideOf (s .stage) .nodes) 10 room))
+      (λ is here fits room. kept)
+      (tests .here) (tests .fits) (tests .room)
 
-  record-kept : (len p k b : ℕ) (s′ : State) → recordAt len s p k b ≡ given s′ → Kept s′
+  record-kept : (len p k : ℕ) (body : List ℕ) (s′ : State) → recordAt len s p k body ≡ given s′ → Kept s′
   unfolding recordAt
-  record-kept len p k b s′ e₀ =
-      let (is-known, e₁) = unless-given _ _ _ _ e₀ in
-      let (whole, e₂) = unless-given _ _ _ _ e₁ in
-      let (here, e₃) = unless-given _ _ _ _ e₂ in
-      let (fits, e₄) = unless-given _ _ _ _ e₃ in
-      let (room, e₅) = unless-given _ _ _ _ e₄ in
-      subst (λ (t : State). Kept t) (cc e₅) (next-kept (kindOf k) b here fits room)
+  record-kept len p k body s′ e =
+      let ((t, taken), same) = then-given _ _ _ e in
+      subst (λ (t : State). Kept t) (cc same) (next-kept k body (passed len p k body (sideOf (s .stage)) (length (s .arities)) (length (s .rules)) taken))
 
   rule-count : (stage : Stage) → StageKept (s .arities) (s .rules) stage → length (s .rules) ≤ 32
   rule-count beforeRules k = rw k (omega arith)
@@ -185,21 +176,22 @@ module _ (s : State) (kept : Kept s) where
         right = λ r m. (kept .settled .sides r m) .right;
       }
 
-ended-within : (s : State) (p : ℕ) (bytes : List ℕ) (book : Book) → Kept s → ended s p bytes ≡ given book → WithinLimits book
+ended-within : (len : ℕ) (s : State) (p : ℕ) (book : Book) → Kept s → ended len s p ≡ given book → WithinLimits book
 unfolding ended
-ended-within s p [] book kept e = subst (λ (b : Book). WithinLimits b) (cc) (kept-within s kept)
-ended-within s p (b ∷ bytes) book kept e = absurd (refused-not-given (6 at p) book e)
+ended-within len s p book kept e =
+    let ((t, none), same) = then-given _ _ _ e in
+    subst (λ (b : Book). WithinLimits b) (cc same) (kept-within s kept)
 
 -- From a state that keeps to it, what is read keeps to the limits.
 from-kept : (fuel len : ℕ) (s : State) (p : ℕ) (bytes : List ℕ) (book : Book) → Kept s → readFrom fuel len s p bytes ≡ given book → WithinLimits book
 unfolding readFrom
-from-kept zero len s p bytes book kept e = absurd (refused-not-given (1 at len) book e)
-from-kept (suc fuel) len s p [] book kept e = absurd (refused-not-given (1 at len) book e)
+from-kept zero len s p bytes book kept e = absurd (refused-not-given (BookEnded len) book e)
+from-kept (suc fuel) len s p [] book kept e = absurd (refused-not-given (BookEnded len) book e)
 from-kept (suc fuel) len s p (k ∷ bytes) book kept e =
     let (s′, taken, rest) = bind-given _ _ _ e in
-    let kept′ : Kept s′ = record-kept s kept len p k (getD bytes 0 0) s′ taken in
+    let kept′ : Kept s′ = record-kept s kept len p k (take (bodyLength k) bytes) s′ taken in
     either-given (eqb k 5) _ _ book
-    (λ is-end. ended-within s′ (p + 1) bytes book kept′)
+    (λ is-end. ended-within len s′ (p + 1 + bodyLength k) book kept′)
     (λ no-end. from-kept fuel len s′ (p + 1 + bodyLength k) (drop (bodyLength k) bytes) book kept′)
     rest
 
@@ -211,4 +203,4 @@ read-within-limits bytes book e =
       settled = record { symbolCount = omega arith; arity = λ a m. absurd (List·Memᴰ·not-nil m); sides = λ r m. absurd (List·Memᴰ·not-nil m) };
       stage = refl;
     })
-    e
+    (told-given _ _ _ e)

@@ -9,10 +9,10 @@ use native.Mathlib.Omega.{arith}
 use lib.ListN.{length, getD, take, set, length-append, length-set}
 use lib.Seq.{getD-set-same, getD-set-other, take-suc-set}
 use Rattle.book.specs.Book.{Rule}
-use Rattle.book.specs.Placed.{nothingRead, withSymbol, withLeft, withRight, withRule}
+use Rattle.book.specs.Entries.{nothingRead, withSymbol, withLeft, withRight, withRule}
 use Rattle.book.specs.Meaning.{treeAt, aritiesOf, ruleAt, rulesBefore}
 use Rattle.book.specs.declared.Book.{Book as PlacedBook}
-use Rattle.book.proofs.Sides.{SideAt}
+use Rattle.book.proofs.SideBytes.{SideAt}
 
 -- The arrays' lengths.
 pub record Sized (b : PlacedBook) : Type 0 where

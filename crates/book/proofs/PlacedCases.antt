@@ -4,7 +4,8 @@ use mathlib.Core.Path.{_≡_, refl}
 use mathlib.Core.List.{[], _∷_, map}
 use lib.ListN.{replicate}
 use Rattle.reply.specs.declared.Refusal.the-variants.{BookEnded, UnknownKind, NotAllowed, BadBody, AfterEnd}
-use Rattle.book.specs.Placed.{nothingRead, placed}
+use Rattle.book.specs.Entries.{nothingRead}
+use Rattle.book.specs.Placed.{placed}
 use Rattle.book.specs.Record.{recordTerm}
 use Rattle.book.specs.RecordMeaning.{recordVerdict}
 use Rattle.book.specs.Examples.{fx-to-gx, onlyEnd, oneAndNone}

@@ -12,7 +12,7 @@ use Rattle.reply.specs.Refusals.{numbered}
 use Rattle.reply.specs.declared.Refusal.{Refusal as Named}
 use Rattle.term.specs.Term.{Term, size}
 use Rattle.term.specs.At.{At}
-use Rattle.reply.proofs.Given.{refused-not-given}
+use Rattle.reply.proofs.Given.{refused-not-given, told-given}
 use Rattle.book.specs.Book.{Book, Rule}
 use Rattle.book.specs.Reading.{readBook}
 use Rattle.book.specs.Placed as places
@@ -23,7 +23,7 @@ use Rattle.book.specs.declared.BookVerdict.{BookVerdict}
 use Rattle.book.specs.declared.BookVerdict.the-variants.{Readable, Refused}
 use Rattle.book.specs.declared.ReadBook.{ReadBook}
 use Rattle.book.proofs.MoreSymbols.{at-table}
-use Rattle.book.proofs.Sides.{SideAt}
+use Rattle.book.proofs.SideBytes.{SideAt}
 use Rattle.book.proofs.Matched.{Matched}
 use Rattle.book.proofs.Placed.{Alike, alike, placed-means}
 
@@ -100,7 +100,7 @@ refused-told bytes r why e = ap (λ (v : BookVerdict). told v (bookAt bytes (r .
 
 -- The book that was given stands at the places.
 given-stands :
-    (bytes : List ℕ) (book : Book) (x : Reply Book) (y : Attempt Named PlacedBook) → Alike bytes x y → x ≡ given book →
+    (bytes : List ℕ) (book : Book) (x : Attempt Named Book) (y : Attempt Named PlacedBook) → Alike bytes x y → x ≡ given book →
     Stands bytes (places.answer y .book) book
 unfolding places.answer
 given-stands bytes book (given book′) (given b) m e =
@@ -111,8 +111,7 @@ given-stands bytes book (refused r) (given b) no-way e = absurd no-way
 given-stands bytes book (refused r) (refused v) tells e = absurd (refused-not-given r book e)
 
 pub read-stands : (bytes : List ℕ) (r : ReadBook) (book : Book) → r ≡ placed bytes → meaning bytes r ≡ given book → Stands bytes (r .book) book
-unfolding placed
+unfolding placed readBook
 read-stands bytes r book settled means =
     subst (λ (one : ReadBook). Stands bytes (one .book) book) (sym settled)
-    (given-stands bytes book (readBook bytes) (places.placedFrom (length bytes) bytes places.start 0) (alike bytes)
-    (sym (placed-means bytes) ∙ ap (meaning bytes) (sym settled) ∙ means))
+    (given-stands bytes book _ _ (alike bytes) (told-given numbered _ book (sym (placed-means bytes) ∙ ap (meaning bytes) (sym settled) ∙ means)))

@@ -9,11 +9,19 @@ use Rattle.reply.specs.Reply.{Attempt, given, refused, _>>_}
 use Rattle.reply.specs.declared.Refusal.{Refusal as Named}
 use Rattle.reply.specs.declared.Refusal.the-variants.{BookEnded}
 use Rattle.term.specs.Tables.{kindOf, bodyLength}
-use Rattle.book.specs.Placed.{Reader, checked, next, ended, placedFrom, start, answer, placed}
+use Rattle.book.specs.Checks.{bodyAt, checked}
+use Rattle.book.specs.Placed.{Reader, next, ended, placedFrom, start, answer, placed}
 
 -- The tests of the record that stands at p.
-abbrev pub checkedAt : (bytes : List ℕ) → Reader → (p : ℕ) → Attempt Named (Unit {0})
-checkedAt bytes q p = checked (length bytes) p (getD bytes p 0) (getD bytes (p + 1) 0) (q .stage) (q .book .symbols) (q .book .rules) (q .nodes)
+abbrev pub testsOf : (bytes : List ℕ) → Reader → (p : ℕ) → Attempt Named (Unit {0})
+testsOf bytes q p = checked (length bytes) p (getD bytes p 0) (bodyAt bytes p) (q .side) (q .book .symbols) (q .book .rules)
+
+-- The place behind it, and the reader that it leaves.
+abbrev pub behind : (bytes : List ℕ) (p : ℕ) → ℕ
+behind bytes p = p + 1 + bodyLength (getD bytes p 0)
+
+abbrev pub nextAt : (bytes : List ℕ) → Reader → (p : ℕ) → Reader
+nextAt bytes q p = next (kindOf (getD bytes p 0)) q (behind bytes p) (bodyAt bytes p)
 
 -- The reading of the book goes on from q at p: what is still to be read from there is what the book gives.
 pub record Continues (bytes : List ℕ) (q : Reader) (p : ℕ) : Type 0 where
@@ -47,36 +55,36 @@ module _ (bytes : List ℕ) (q : Reader) (p : ℕ) where
         go zero enough same = absurd (omega arith)
         go (suc fuel) enough same = f fuel enough same
 
-    refused-step : (fuel : ℕ) (r : Named) → checkedAt bytes q p ≡ refused r → placedFrom (suc fuel) bytes q p ≡ refused r
+    refused-step : (fuel : ℕ) (r : Named) → testsOf bytes q p ≡ refused r → placedFrom (suc fuel) bytes q p ≡ refused r
     unfolding placedFrom _>>_
     refused-step fuel r e = rw (placedFrom, lt-ltb p (length bytes) here, e)
 
     -- The record at p is refused.
-    pub refused-here : Continues bytes q p → (r : Named) → checkedAt bytes q p ≡ refused r → placed bytes ≡ answer (refused r)
+    pub refused-here : Continues bytes q p → (r : Named) → testsOf bytes q p ≡ refused r → placed bytes ≡ answer (refused r)
     unfolding placed
     refused-here c r e = with-fuel (λ fuel enough same. ap answer (sym same ∙ refused-step fuel r e)) c
 
     ended-step :
-        (fuel : ℕ) → checkedAt bytes q p ≡ given tt → getD bytes p 0 ≡ 5 → placedFrom (suc fuel) bytes q p ≡ ended (length bytes) (q .book) (p + 1)
+        (fuel : ℕ) → testsOf bytes q p ≡ given tt → getD bytes p 0 ≡ 5 → placedFrom (suc fuel) bytes q p ≡ ended (length bytes) (q .book) (behind bytes p)
     unfolding placedFrom _>>_
     ended-step fuel e k = rw (placedFrom, lt-ltb p (length bytes) here, e, eq-eqb (getD bytes p 0) 5 k)
 
     -- The end record is at p.
     pub ended-here :
-        Continues bytes q p → checkedAt bytes q p ≡ given tt → getD bytes p 0 ≡ 5 → placed bytes ≡ answer (ended (length bytes) (q .book) (p + 1))
+        Continues bytes q p → testsOf bytes q p ≡ given tt → getD bytes p 0 ≡ 5 → placed bytes ≡ answer (ended (length bytes) (q .book) (behind bytes p))
     unfolding placed
     ended-here c e k = with-fuel (λ fuel enough same. ap answer (sym same ∙ ended-step fuel e k)) c
 
     taken-step :
-        (fuel : ℕ) → checkedAt bytes q p ≡ given tt → (getD bytes p 0 ≡ 5 → ⊥) →
+        (fuel : ℕ) → testsOf bytes q p ≡ given tt → (getD bytes p 0 ≡ 5 → ⊥) →
         placedFrom (suc fuel) bytes q p
-        ≡ placedFrom fuel bytes (next (kindOf (getD bytes p 0)) q p (getD bytes (p + 1) 0)) (p + 1 + bodyLength (getD bytes p 0))
+        ≡ placedFrom fuel bytes (nextAt bytes q p) (behind bytes p)
     unfolding placedFrom _>>_
     taken-step fuel e k = rw (placedFrom, lt-ltb p (length bytes) here, e, ne-eqb (getD bytes p 0) 5 k)
 
     -- Another record is taken.
     pub taken-here :
-        Continues bytes q p → checkedAt bytes q p ≡ given tt → (getD bytes p 0 ≡ 5 → ⊥) →
-        Continues bytes (next (kindOf (getD bytes p 0)) q p (getD bytes (p + 1) 0)) (p + 1 + bodyLength (getD bytes p 0))
+        Continues bytes q p → testsOf bytes q p ≡ given tt → (getD bytes p 0 ≡ 5 → ⊥) →
+        Continues bytes (nextAt bytes q p) (behind bytes p)
     taken-here c e k =
         with-fuel (λ fuel enough same. record { fuel = fuel; enough = omega arith; same = sym (taken-step fuel e k) ∙ same }) c

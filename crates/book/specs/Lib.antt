@@ -1,5 +1,8 @@
 pub mod Book
+pub mod Sides
+pub mod Checks
 pub mod Reading
+pub mod Entries
 pub mod Placed
 pub mod Meaning
 pub mod Record

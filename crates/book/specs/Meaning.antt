@@ -18,6 +18,10 @@ use Rattle.book.specs.declared.ReadBook.{ReadBook}
 unfoldable pub nodeOf : (kind body : ℕ) → Node
 nodeOf k b = elim (eqb k 3) [ true ↦ symbolic b | false ↦ variable b ]
 
+-- How many subterms the node of a kind opens, its symbol having this arity.
+unfoldable pub opensOf : (kind arity : ℕ) → ℕ
+opensOf k arity = elim (eqb k 3) [ true ↦ arity | false ↦ 0 ]
+
 -- So many nodes from place u on.
 unfoldable pub nodesAt : (bytes : List ℕ) (u many : ℕ) → List Node
 nodesAt bytes u zero = []

@@ -1,16 +1,25 @@
 // Reading books and records. The definitions stand in specs/.
+mod checks;
+mod sides;
+
+use checks::Checked;
+use checks::check_record;
 use reply::Refusal;
+use sides::SideAfter;
+use sides::Stage;
+use sides::no_side;
+use sides::open_side;
+use sides::with_node;
 ghost use mathlib.Core.Path.{_≡_};
 ghost use Prim.Native.Nat.{ℕ, _<_, min};
 ghost use lib.ListN.{length, getD, take, drop};
 ghost use Rattle.reply.specs.Reply.{refused};
-ghost use Rattle.term.specs.Tables.{kindOf};
-ghost use Rattle.term.specs.Prefix.{arityOf};
-ghost use Rattle.book.specs.Reading.{known, readBook};
+ghost use Rattle.book.specs.Reading.{readBook};
 ghost use Rattle.book.specs.Record.{faultRefusal, recordNode, recordEnd, recordTerm};
 ghost use Rattle.book.specs.RecordMeaning.{recordMeaning, recordVerdict, nodeFound, endFound};
-ghost use Rattle.book.specs.Meaning.{nodeOf, meaning};
-ghost use Rattle.book.specs.Placed.{nothingRead, sideOpen, noRuleYet, allowed, bodyFits, roomLeft, checked, checkedAs, ended, answer, placed};
+ghost use Rattle.book.specs.Meaning.{nodeOf, meaning, opensOf};
+ghost use Rattle.book.specs.Entries.{nothingRead};
+ghost use Rattle.book.specs.Placed.{ended, answer, placed};
 
 // A book that was read, as places in its bytes. Symbol f has arity arities[f]. The left side of rule i stands from left_at[i] on
 // and has left_nodes[i] nodes, the right side from right_at[i] on and has right_nodes[i]. Entries past the counts are 0.
@@ -34,21 +43,6 @@ pub enum BookVerdict {
 pub struct ReadBook {
     pub verdict: BookVerdict,
     pub book: Book,
-}
-
-// Where the reading stands: the left side is open from the start of its rule on, the right side as soon as the left is whole, and
-// none once the right is whole.
-enum Stage {
-    BeforeRules,
-    InLeft,
-    InRight,
-    RuleWhole,
-}
-
-// Whether one record is taken.
-enum Checked {
-    Taken,
-    Refused(Refusal),
 }
 
 // A byte as a number.
@@ -92,123 +86,12 @@ fn refuse(refusal: Refusal) -> ReadBook
     }
 }
 
-// Kinds 1 to 5.
-fn is_known(kind: u8) -> bool
-    ensures { λ r. ⌜ r ≡ known (kindOf kind) ⌝ }
-{
-    if kind < 1 { false } else { kind <= 5 }
-}
-
-// Whether a side is open.
-fn side_open(stage: Stage) -> bool
-    ensures { λ r. ⌜ r ≡ sideOpen stage ⌝ }
-{
-    match stage {
-        Stage::BeforeRules => false,
-        Stage::InLeft => true,
-        Stage::InRight => true,
-        Stage::RuleWhole => false,
-    }
-}
-
-// Whether symbols may still come.
-fn no_rule_yet(stage: Stage) -> bool
-    ensures { λ r. ⌜ r ≡ noRuleYet stage ⌝ }
-{
-    match stage {
-        Stage::BeforeRules => true,
-        Stage::InLeft => false,
-        Stage::InRight => false,
-        Stage::RuleWhole => false,
-    }
-}
-
-// Refusal 3: a symbol after a rule, a node outside a side still open, a rule or the end while a side is open.
-fn is_allowed(kind: u8, stage: Stage) -> bool
-    ensures { λ r. ⌜ r ≡ allowed (kindOf kind) stage ⌝ }
-{
-    match kind {
-        1 => no_rule_yet(stage),
-        2 => !side_open(stage),
-        3 => side_open(stage),
-        4 => side_open(stage),
-        5 => !side_open(stage),
-        _ => false,
-    }
-}
-
-// Refusal 4: an arity above 6, a variable above 15, a symbol not declared.
-fn body_fits(kind: u8, symbols: usize, body: u8) -> bool
-    ensures { λ r. ⌜ r ≡ bodyFits (kindOf kind) symbols body ⌝ }
-{
-    match kind {
-        1 => body <= 6,
-        3 => wide(body) < symbols,
-        4 => body <= 15,
-        _ => true,
-    }
-}
-
-// Refusal 5: the 17th symbol, the 33rd rule, the 11th node of a side.
-fn room_left(kind: u8, symbols: usize, rules: usize, nodes: usize) -> bool
-    ensures { λ r. ⌜ r ≡ roomLeft (kindOf kind) symbols rules nodes ⌝ }
-{
-    match kind {
-        1 => symbols < 16,
-        2 => rules < 32,
-        3 => nodes < 10,
-        4 => nodes < 10,
-        _ => true,
-    }
-}
-
-// One record, in the order 2, 1, 3, 4, 5: its kind byte stands at `at` in a book of `len` bytes, `body` is the byte behind it.
-fn check_record(
-    len: usize,
-    at: usize,
-    kind: u8,
-    body: u8,
-    stage: Stage,
-    symbols: usize,
-    rules: usize,
-    nodes: usize,
-) -> Checked
-    requires { ⌜ at < len ⌝ }
-    ensures { λ r. ⌜ r ≡ checkedAs (checked len at kind body stage symbols rules nodes) ⌝ }
-{
-    if !is_known(kind) {
-        return Checked::Refused(Refusal::UnknownKind(at));
-    }
-    if len - at - 1 < term::body_length(kind) {
-        return Checked::Refused(Refusal::BookEnded(len));
-    }
-    let allowed = is_allowed(kind, stage);
-    let fits = body_fits(kind, symbols, body);
-    let room = room_left(kind, symbols, rules, nodes);
-    if !allowed {
-        return Checked::Refused(Refusal::NotAllowed(at));
-    }
-    if !fits {
-        return Checked::Refused(Refusal::BadBody(at + 1));
-    }
-    if !room {
-        return Checked::Refused(Refusal::TooMany(at));
-    }
-    Checked::Taken
-}
-
-// How many subterms a node opens: as many as its symbol's arity, none for a variable.
-fn opens(kind: u8, body: u8, arities: [u8; 16]) -> usize
-    requires { ⌜ body < 16 ⌝ }
-    ensures counts { λ r. ⌜ r ≡ arityOf arities (nodeOf kind body) ⌝ }
+// How many subterms a node opens: its symbol's arity, none for a variable.
+fn opens(kind: u8, arity: u8) -> usize
+    ensures counts { λ r. ⌜ r ≡ opensOf kind arity ⌝ }
     ensures small { λ r. ⌜ r < 256 ⌝ }
 {
-    if kind == 3 {
-        let symbol = wide(body);
-        wide(arities[symbol])
-    } else {
-        0
-    }
+    if kind == 3 { wide(arity) } else { 0 }
 }
 
 // "Then kind 5 and nothing more": the end record stands right before `at`.
@@ -232,19 +115,17 @@ pub fn read_book(bytes: &[u8]) -> ReadBook
     ensures means { λ r. ⌜ meaning (now (bytes .entry)) r ≡ readBook (now (bytes .entry)) ⌝ }
 {
     let mut book = nothing_read();
-    let mut stage = Stage::BeforeRules;
-    let mut missing: usize = 0;
-    let mut nodes: usize = 0;
+    let mut side = no_side(Stage::BeforeRules);
     let mut at: usize = 0;
     while at < bytes.len() {
-        let kind = bytes[at];
-        let body = byte_at(bytes, at + 1);
         let symbols = book.symbols;
         let rules = book.rules;
-        let checked = check_record(bytes.len(), at, kind, body, stage, symbols, rules, nodes);
+        let checked = check_record(bytes, at, side, symbols, rules);
         if let Checked::Refused(refusal) = checked {
             return refuse(refusal);
         }
+        let kind = bytes[at];
+        let body = byte_at(bytes, at + 1);
         at += 1 + term::body_length(kind);
         if kind == 5 {
             return finish(bytes.len(), book, at);
@@ -254,27 +135,23 @@ pub fn read_book(bytes: &[u8]) -> ReadBook
             book.symbols = symbols + 1;
         } else if kind == 2 {
             book.left_at[rules] = at;
-            stage = Stage::InLeft;
-            missing = 1;
-            nodes = 0;
+            side = open_side(Stage::InLeft);
         } else {
-            let arities = book.arities;
-            missing = missing - 1 + opens(kind, body, arities);
-            nodes += 1;
-            if missing == 0 {
-                match stage {
-                    Stage::InLeft => {
-                        book.left_nodes[rules] = nodes;
-                        book.right_at[rules] = at;
-                        stage = Stage::InRight;
-                        missing = 1;
-                        nodes = 0;
-                    }
-                    _ => {
-                        book.right_nodes[rules] = nodes;
-                        book.rules = rules + 1;
-                        stage = Stage::RuleWhole;
-                    }
+            let symbol = wide(body);
+            let after = with_node(side, opens(kind, book.arities[symbol]));
+            match after {
+                SideAfter::Open(more) => {
+                    side = more;
+                }
+                SideAfter::LeftWhole(nodes) => {
+                    book.left_nodes[rules] = nodes;
+                    book.right_at[rules] = at;
+                    side = open_side(Stage::InRight);
+                }
+                SideAfter::RightWhole(nodes) => {
+                    book.right_nodes[rules] = nodes;
+                    book.rules = rules + 1;
+                    side = no_side(Stage::RuleWhole);
                 }
             }
         }

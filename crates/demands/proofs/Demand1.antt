@@ -12,8 +12,9 @@ use Rattle.reply.specs.Lent.{laid}
 use Rattle.term.specs.Term.{Term, Args, var, app, nil, cons, size}
 use Rattle.reply.proofs.Tests.{and-left, and-right}
 use Rattle.book.specs.Book.{Book, Rule}
-use Rattle.book.specs.Reading.{State, recordAt, ended, readFrom, start, readBook}
+use Rattle.book.specs.Reading.{readBook}
 use Rattle.book.specs.Record.{Fault, endedEarly, wrongKind, notDeclared, tooManyNodes, afterTheTerm, refusalOf, readRecord}
+use Rattle.book.proofs.Refusals.{read-refuses}
 use Rattle.order.specs.Clearing.{allDecrease, ranksClear, checkRanks}
 use Rattle.clauses.specs.Cnf.{Literal}
 use Rattle.clauses.specs.Item.{Item, closing, literal, faulty}
@@ -101,25 +102,12 @@ module _ {numbers : List ℕ} where
 abbrev reading : List ℕ
 reading = 1 ∷ 2 ∷ 3 ∷ 4 ∷ 5 ∷ 6 ∷ []
 
-record-only : (len : ℕ) (s : State) (p k b : ℕ) → Only reading (recordAt len s p k b)
-unfolding recordAt
-record-only len s p k b = test _ _ tt (test _ _ tt (test _ _ tt (test _ _ tt (test _ _ tt result))))
-
-ended-only : (s : State) (p : ℕ) (bytes : List ℕ) → Only reading (ended s p bytes)
-unfolding ended
-ended-only s p [] = result
-ended-only s p (b ∷ bytes) = refusal-with _ tt
-
-from-only : (fuel len : ℕ) (s : State) (p : ℕ) (bytes : List ℕ) → Only reading (readFrom fuel len s p bytes)
-unfolding readFrom
-from-only zero len s p bytes = refusal-with _ tt
-from-only (suc fuel) len s p [] = refusal-with _ tt
-from-only (suc fuel) len s p (k ∷ bytes) =
-    after (record-only len s p k (getD bytes 0 0)) (λ s′. either (eqb k 5) (ended-only s′ (p + 1) bytes) (from-only fuel len s′ _ _))
-
 book-only : (bytes : Bytes) → Only reading (readBook bytes)
-unfolding readBook
-book-only bytes = from-only (length bytes) (length bytes) start 0 bytes
+book-only bytes = go (readBook bytes) refl
+  where
+    go : (x : Reply Book) → readBook bytes ≡ x → Only reading x
+    go (given book) e = result
+    go (refused r) e = refusal (read-refuses bytes r e)
 
 -- A block.
 numbered-only : (found : Option Bytes) → Only (10 ∷ []) (numberedBlock found)

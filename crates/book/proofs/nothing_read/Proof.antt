@@ -1,6 +1,6 @@
 -- `book::nothing_read` meets its contract. Assumes nothing.
 use mathlib.Core.Path.{refl}
-use Rattle.book.specs.Placed.{nothingRead}
+use Rattle.book.specs.Entries.{nothingRead}
 use Rattle.book.proofs.nothing_read.Statement.{statement}
 use Rattle.book.proofs.nothing_read.Tie as tie
 

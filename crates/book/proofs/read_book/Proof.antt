@@ -1,127 +1,137 @@
 -- `book::read_book` meets its contract. The loop's invariant: the reading to places goes on from the locals at `at`, and the counts keep to
--- their bounds; the measure is what is left of the bytes. Assumes nothing.
+-- the limits; the measure is what is left of the bytes. Assumes nothing.
 use Prim.Native.Nat.{ℕ, _+_, _-_, _≤_, _<_}
-use mathlib.Core.List.{List, [], _∷_}
-use mathlib.Core.Logic.{⊎-elim}
-use mathlib.Core.Path.{_≡_, refl, sym, ap, subst, subst₂, _∙_}
+use mathlib.Core.List.{List}
+use mathlib.Core.Path.{_≡_, refl, sym, ap, ap₂, subst, subst₂, _∙_}
 use native.Mathlib.Omega.{arith}
 use borrow.Author.Needs.{needs}
-use denote.Enum.Declared.{tagOf}
-use types.Run.{OneOf}
-use lib.Dec.{T}
 use lib.ListN.{length, getD}
-use Rattle.reply.specs.Reply.{given}
-use Rattle.term.specs.Tables.{bodyLength, bodyLengths}
+use Rattle.term.specs.Tables.{bodyLength}
 use Rattle.term.specs.Prefix.{arityOf}
+use Rattle.book.specs.Checks.{bodyAt, checkedAs}
+use Rattle.book.specs.Entries.{withSymbol, withLeft, withRight, withRule}
+use Rattle.book.specs.Meaning.{nodeOf, opensOf, meaning}
+use Rattle.book.specs.Placed.{Reader, readerAfter, nodeTaken, ended, start, answer, placed}
 use Rattle.book.specs.Reading.{readBook}
-use Rattle.book.specs.Meaning.{nodeOf, meaning}
-use Rattle.book.specs.Placed.{Reader, withSymbol, withLeft, withRight, withRule, sideOpen, checked, checkedAs, ended, start, answer, placed}
+use Rattle.book.specs.Sides.{withNode}
 use Rattle.book.specs.declared.Book.{Book}
 use Rattle.book.specs.declared.ReadBook.{ReadBook}
-use Rattle.book.specs.declared.Stage.{Stage}
-use Rattle.book.specs.declared.Stage.the-variants.{BeforeRules, InLeft, InRight, RuleWhole}
-use Rattle.book.proofs.Stage.{the-type as stage-type}
-use Rattle.book.proofs.Checks.{checked-taken, checked-refused}
-use Rattle.book.proofs.Steps.{checkedAt, ended-early, refused-here, ended-here}
-use Rattle.book.proofs.Going.{Going, Turn, going-start, record-whole, symbol-room, symbol-taken, rule-room, rule-taken, NodeHere, node-facts, node-taken, left-taken, right-taken}
+use Rattle.book.specs.declared.sides.Side.{Side}
+use Rattle.book.specs.declared.sides.SideAfter.{SideAfter}
+use Rattle.book.proofs.Tests.{checked-taken, checked-refused}
+use Rattle.book.proofs.Nodes.{opens-its}
+use Rattle.book.proofs.Steps.{testsOf, behind, nextAt, ended-early, refused-here, ended-here}
+use Rattle.book.proofs.Going.{Going, Turn, going-start, record-within, symbol-room, symbol-next, rule-room, rule-next, NodeHere, node-here, goes-on}
 use Rattle.book.proofs.Placed.{placed-means}
 use Rattle.book.proofs.read_book.Statement.{statement}
 use Rattle.book.proofs.read_book.Tie as tie
 
+-- The invariant and the measure.
 abbrev Inv-loop : tie.InvT-loop
-Inv-loop bytes book₀ stage₀ missing₀ nodes₀ at₀ book stage missing nodes at = Going bytes (record { book = book; stage = stage; missing = missing; nodes = nodes }) at
+Inv-loop bytes book₀ side₀ at₀ book side at = Going bytes (record { book = book; side = side }) at
 
 abbrev μ-loop : tie.MeasureT-loop
-μ-loop bytes book₀ stage₀ missing₀ nodes₀ at₀ book stage missing nodes at = length bytes - at
-
--- What a turn has once the record's tests are answered.
-abbrev Tested : Type 0
-Tested = tie.After-check-record Inv-loop μ-loop
-
-abbrev bytes-of : Tested → List ℕ
-bytes-of c = c .before .before .before .before .before .before .before .args .bytes .now
-
-abbrev reader-of : Tested → Reader
-reader-of c =
-    let at-loop = c .before .before .before .before .loop in
-    record { book = at-loop .book; stage = at-loop .stage; missing = at-loop .missing; nodes = at-loop .nodes }
-
-abbrev place-of : Tested → ℕ
-place-of c = c .before .before .before .before .loop .at
-
-tests-of : (c : Tested) → c .check-record .result ≡ checkedAs (checkedAt (bytes-of c) (reader-of c) (place-of c))
-tests-of c =
-    let q = reader-of c in
-    let p = place-of c in
-    subst (λ (b : ℕ). c .check-record .result ≡ checkedAs (checked (length (bytes-of c)) p (getD (bytes-of c) p 0) b (q .stage) (q .book .symbols) (q .book .rules) (q .nodes)))
-    (c .before .byte-at .ensures) (c .check-record .ensures)
-
--- The record is taken.
-turn : (c : tie.After-enum-told Inv-loop μ-loop) → Turn (bytes-of (c .before .before)) (reader-of (c .before .before)) (place-of (c .before .before))
-turn c =
-    record {
-      going = c .before .before .before .before .before .before .loop .inv;
-      here = c .before .before .before .before .before .loop-test .taken;
-      taken = checked-taken (checkedAt (bytes-of (c .before .before)) (reader-of (c .before .before)) (place-of (c .before .before))) (sym (tests-of (c .before .before)) ∙ c .enum-told .given .1);
-    }
-
-whole-of : (c : tie.After-enum-told Inv-loop μ-loop) → let t = c .before .before in place-of t + 1 + bodyLength (getD (bytes-of t) (place-of t) 0) ≤ length (bytes-of t)
-whole-of c = let t = c .before .before in record-whole (bytes-of t) (reader-of t) (place-of t) (turn c)
-
--- Behind the record, whose kind has a body of n bytes.
-behind : (c : tie.After-body-length Inv-loop μ-loop) (n : ℕ) → bodyLength (getD (bytes-of (c .before .before .before)) (place-of (c .before .before .before)) 0) ≡ n → place-of (c .before .before .before) + (1 + n) ≡ place-of (c .before .before .before) + (1 + c .body-length .result)
-behind c n e = omega (arith, c .body-length .ensures)
-
--- A side that is open and is no left side is a right side.
-right-side : (s : Stage) → T (sideOpen s) → OneOf (0 ∷ 2 ∷ 3 ∷ []) (tagOf stage-type s) → s ≡ InRight
-unfolding sideOpen
-right-side BeforeRules o no-left = absurd o
-right-side InLeft o no-left = absurd (⊎-elim (λ e. omega arith) (⊎-elim (λ e. omega arith) (λ e. omega arith)) no-left)
-right-side InRight o no-left = refl
-right-side RuleWhole o no-left = absurd o
+μ-loop bytes book₀ side₀ at₀ book side at = length bytes - at
 
 -- What was found is what is promised of it.
 promised : (bytes : List ℕ) (r : ReadBook) → r ≡ placed bytes → (r ≡ placed bytes) × (meaning bytes r ≡ readBook bytes)
 promised bytes r e = (e, ap (meaning bytes) e ∙ placed-means bytes)
 
--- A node's record.
-abbrev tested : tie.After-arities Inv-loop μ-loop → Tested
-tested c = c .before .before .before .before .before .before .before
+-- A turn, once the tests of its record are answered.
+abbrev Tested : Type 0
+Tested = tie.After-check-record Inv-loop μ-loop
+
+abbrev bytes-of : Tested → List ℕ
+bytes-of t = t .before .before .before .before .before .before .args .bytes .now
+
+abbrev reader-of : Tested → Reader
+reader-of t = let at-loop = t .before .before .loop in record { book = at-loop .book; side = at-loop .side }
+
+abbrev place-of : Tested → ℕ
+place-of t = t .before .before .loop .at
+
+-- A turn whose record is taken, once the place behind the record is asked for.
+abbrev Taken : Type 0
+Taken = tie.After-body-length Inv-loop μ-loop
+
+abbrev tested : Taken → Tested
+tested b = b .before .before .before .before .before
+
+turn : (b : Taken) → Turn (bytes-of (tested b)) (reader-of (tested b)) (place-of (tested b))
+turn b =
+    let t = tested b in
+    record {
+      going = t .before .before .loop .inv;
+      here = t .before .loop-test .taken;
+      taken = checked-taken (testsOf (bytes-of t) (reader-of t) (place-of t)) (sym (t .check-record .ensures) ∙ b .before .before .before .enum-told .given .1);
+    }
+
+within : (b : Taken) → behind (bytes-of (tested b)) (place-of (tested b)) ≤ length (bytes-of (tested b))
+within b = let t = tested b in record-within (bytes-of t) (reader-of t) (place-of t) (turn b)
+
+-- The place behind the record, as the code adds it up.
+place-behind : (b : Taken) → behind (bytes-of (tested b)) (place-of (tested b)) ≡ place-of (tested b) + (1 + b .body-length .result)
+place-behind b = omega (arith, b .body-length .ensures)
+
+-- The reading goes on with what the record leaves.
+again :
+    (b : Taken) {q : Reader} → (getD (bytes-of (tested b)) (place-of (tested b)) 0 ≡ 5 → ⊥) → nextAt (bytes-of (tested b)) (reader-of (tested b)) (place-of (tested b)) ≡ q →
+    Going (bytes-of (tested b)) q (place-of (tested b) + (1 + b .body-length .result))
+again b no-end leaves =
+    let t = tested b in
+    subst₂ (λ (q : Reader) (p : ℕ). Going (bytes-of t) q p) leaves (place-behind b) (goes-on (bytes-of t) (reader-of t) (place-of t) (turn b) no-end)
+
+-- A turn whose record is a node's, once its side behind it is known.
+abbrev Grown : Type 0
+Grown = tie.After-with-node Inv-loop μ-loop
+
+abbrev taken : Grown → Taken
+taken g = g .before .before .before .before .before .before .before
 
 node :
-    (c : tie.After-arities Inv-loop μ-loop) → let t = tested c in
-    NodeHere (reader-of t) (place-of t) (getD (bytes-of t) (place-of t) 0) (getD (bytes-of t) (place-of t + 1) 0)
-node c =
-    let t = tested c in
-    node-facts (bytes-of t) (reader-of t) (place-of t) (turn (c .before .before .before .before .before)) (c .before .before .if2 .left) (c .before .if3 .left) (c .before .before .before .if1 .left)
+    (e : tie.Else3 Inv-loop μ-loop) → let t = tested (e .before .before .before) in
+    NodeHere (reader-of t) (behind (bytes-of t) (place-of t)) (getD (bytes-of t) (place-of t) 0) (getD (bytes-of t) (place-of t + 1) 0) (bodyAt (bytes-of t) (place-of t))
+node e =
+    let t = tested (e .before .before .before) in
+    node-here (bytes-of t) (reader-of t) (place-of t) (turn (e .before .before .before)) (e .before .if2 .left) (e .if3 .left) (e .before .before .if1 .left)
 
-behind-node : (c : tie.After-arities Inv-loop μ-loop) → place-of (tested c) + 2 ≡ place-of (tested c) + (1 + c .before .before .before .before .body-length .result)
-behind-node c = omega (arith, behind (c .before .before .before .before) 1 (node c .oneByte))
+-- What the node leaves: the reader that the side behind it says.
+abbrev book-of : Grown → Book
+book-of g = reader-of (tested (taken g)) .book
 
-opens-its :
-    (c : tie.After-opens Inv-loop μ-loop) → let t = tested (c .before) in
-    c .opens .result ≡ arityOf (reader-of t .book .arities) (nodeOf (getD (bytes-of t) (place-of t) 0) (getD (bytes-of t) (place-of t + 1) 0))
-opens-its c =
-    let t = tested (c .before) in
-    c .opens .ensures .0 ∙ ap (λ (b : ℕ). arityOf (reader-of t .book .arities) (nodeOf (getD (bytes-of t) (place-of t) 0) b)) (t .before .byte-at .ensures)
+abbrev place-after : Grown → ℕ
+place-after g = place-of (tested (taken g)) + (1 + taken g .body-length .result)
 
+node-leaves :
+    (g : Grown) {after : SideAfter} → g .with-node .result ≡ after → let t = tested (taken g) in
+    nextAt (bytes-of t) (reader-of t) (place-of t) ≡ readerAfter (book-of g) (place-after g) after
+unfolding nodeTaken
+node-leaves g is =
+    let t = tested (taken g) in
+    let q = reader-of t in
+    let k = getD (bytes-of t) (place-of t) 0 in
+    let byte : g .before .before .before .wide .result ≡ getD (bytes-of t) (place-of t + 1) 0 = g .before .before .before .wide .ensures .0 ∙ taken g .before .byte-at .ensures in
+    let opened : g .before .opens .result ≡ arityOf (q .book .arities) (nodeOf k (getD (bytes-of t) (place-of t + 1) 0)) =
+    g .before .opens .ensures .0 ∙ ap (λ (i : ℕ). opensOf k (getD (q .book .arities) i 0)) byte ∙ opens-its (q .book .arities) k (getD (bytes-of t) (place-of t + 1) 0)
+    in
+    node (g .before .before .before .before) .step
+    ∙ ap₂ (λ (e : ℕ) (after : SideAfter). readerAfter (q .book) e after) (place-behind (taken g)) (sym (g .with-node .ensures ∙ ap (withNode (q .side)) opened) ∙ is)
+
+no-end : (g : Grown) → getD (bytes-of (tested (taken g))) (place-of (tested (taken g))) 0 ≡ 5 → ⊥
+no-end g = g .before .before .before .before .before .before .if1 .left
+
+-- The needs of the code.
 nothing-read-requires : tie.Need-nothing-read-requires Inv-loop μ-loop
 nothing-read-requires c κs = search needs
+
+no-side-requires : tie.Need-no-side-requires Inv-loop μ-loop
+no-side-requires c κs = search needs
 
 loop-holds : tie.Need-loop-holds Inv-loop μ-loop
 unfolding start
 loop-holds c =
-    subst (λ (b : Book). Going (c .before .before .args .bytes .now) (record { book = b; stage = BeforeRules; missing = 0; nodes = 0 }) 0)
-    (sym (c .nothing-read .ensures)) (going-start (c .before .before .args .bytes .now))
-
-shared-slice-read-kind : tie.Need-shared-slice-read-kind Inv-loop μ-loop
-shared-slice-read-kind c = search needs
-
-add-byte-at : tie.Need-add-byte-at Inv-loop μ-loop
-add-byte-at c = search needs
-
-byte-at-requires : tie.Need-byte-at-requires Inv-loop μ-loop
-byte-at-requires c κs = search needs
+    let bytes = c .before .before .before .args .bytes .now in
+    subst₂ (λ (b : Book) (side : Side). Going bytes (record { book = b; side = side }) 0) (sym (c .before .nothing-read .ensures)) (sym (c .no-side .ensures)) (going-start bytes)
 
 check-record-requires : tie.Need-check-record-requires Inv-loop μ-loop
 check-record-requires c κs = search needs
@@ -138,151 +148,172 @@ returns c =
     promised (bytes-of t) (c .refuse .result)
     (c .refuse .ensures
     ∙ sym
-    (refused-here (bytes-of t) (reader-of t) (place-of t) (t .before .before .before .loop-test .taken) (t .before .before .before .before .loop .inv .continues) _
-    (checked-refused (checkedAt (bytes-of t) (reader-of t) (place-of t)) _ (sym (tests-of t) ∙ c .before .before .checked .given .1))))
+    (refused-here (bytes-of t) (reader-of t) (place-of t) (t .before .loop-test .taken) (t .before .before .loop .inv .continues) _
+    (checked-refused (testsOf (bytes-of t) (reader-of t) (place-of t)) _ (sym (t .check-record .ensures) ∙ c .before .before .checked .given .1))))
 
 enum-told : tie.Need-enum-told Inv-loop μ-loop
 enum-told c = search needs
+
+shared-slice-read-kind : tie.Need-shared-slice-read-kind Inv-loop μ-loop
+shared-slice-read-kind c = search needs
+
+add-byte-at : tie.Need-add-byte-at Inv-loop μ-loop
+add-byte-at c = search needs
+
+byte-at-requires : tie.Need-byte-at-requires Inv-loop μ-loop
+byte-at-requires c κs = search needs
 
 body-length-requires : tie.Need-body-length-requires Inv-loop μ-loop
 body-length-requires c κs = search needs
 
 add-at : tie.Need-add-at Inv-loop μ-loop
-add-at c = omega (arith, c .body-length .ensures, whole-of (c .before))
+add-at c = omega (arith, c .body-length .ensures, within c)
 
 add-at-2 : tie.Need-add-at-2 Inv-loop μ-loop
-add-at-2 c = omega (arith, c .body-length .ensures, whole-of (c .before))
+add-at-2 c = omega (arith, c .body-length .ensures, within c)
 
 finish-requires : tie.Need-finish-requires Inv-loop μ-loop
 finish-requires c κs = search needs
 
 returns-2 : tie.Need-returns-2 Inv-loop μ-loop
-unfolding bodyLength bodyLengths
 returns-2 c =
-    let t = c .before .before .before .before .before in
+    let b = c .before .before in
+    let t = tested b in
     promised (bytes-of t) (c .finish .result)
     (c .finish .ensures
-    ∙ ap (λ (u : ℕ). answer (ended (length (bytes-of t)) (reader-of t .book) u)) (omega (arith, behind (c .before .before) 0 (ap bodyLength (c .before .if1 .taken))))
-    ∙ sym (ended-here (bytes-of t) (reader-of t) (place-of t) (t .before .before .before .loop-test .taken) (t .before .before .before .before .loop .inv .continues) (turn (c .before .before .before) .taken) (c .before .if1 .taken)))
+    ∙ ap (λ (u : ℕ). answer (ended (length (bytes-of t)) (reader-of t .book) u)) (sym (place-behind b))
+    ∙ sym (ended-here (bytes-of t) (reader-of t) (place-of t) (t .before .loop-test .taken) (t .before .before .loop .inv .continues) (turn b .taken) (c .before .if1 .taken)))
 
 element-write-book : tie.Need-element-write-book Inv-loop μ-loop
-element-write-book c = let t = c .before .before .before .before .before in symbol-room (bytes-of t) (reader-of t) (place-of t) (turn (c .before .before .before)) (c .if2 .taken)
+element-write-book c = let t = tested (c .before .before) in symbol-room (bytes-of t) (reader-of t) (place-of t) (turn (c .before .before)) (c .if2 .taken)
 
 add-book : tie.Need-add-book Inv-loop μ-loop
-add-book c = let t = c .before .before .before .before .before in omega (arith, symbol-room (bytes-of t) (reader-of t) (place-of t) (turn (c .before .before .before)) (c .if2 .taken))
+add-book c = search needs
 
 loop-less : tie.Need-loop-less Inv-loop μ-loop
 loop-less c = search needs
 
 loop-again : tie.Need-loop-again Inv-loop μ-loop
-unfolding withSymbol bodyLength bodyLengths
+unfolding withSymbol
 loop-again c =
-    let t = c .before .before .before .before .before in
-    let q = reader-of t in
-    subst₂ (λ (body u : ℕ). Going (bytes-of t) (record { book = withSymbol (q .book) body; stage = q .stage; missing = q .missing; nodes = q .nodes }) u)
-    (sym (t .before .byte-at .ensures)) (omega (arith, behind (c .before .before) 1 (ap bodyLength (c .if2 .taken))))
-    (symbol-taken (bytes-of t) (reader-of t) (place-of t) (turn (c .before .before .before)) (c .if2 .taken))
+    let b = c .before .before in
+    let t = tested b in
+    again b (c .before .if1 .left)
+    (symbol-next (bytes-of t) (reader-of t) (place-of t) (turn b) (c .if2 .taken)
+    ∙ ap {B = Reader} (λ (arity : ℕ). record { book = withSymbol (reader-of t .book) arity; side = reader-of t .side }) (sym (b .before .byte-at .ensures)))
 
 mul-book : tie.Need-mul-book Inv-loop μ-loop
-mul-book c = let t = c .before .before .before .before .before .before in omega (arith, rule-room (bytes-of t) (reader-of t) (place-of t) (turn (c .before .before .before .before)) (c .if3 .taken))
+mul-book c = search needs
 
 element-write-book-2 : tie.Need-element-write-book-2 Inv-loop μ-loop
-element-write-book-2 c = let t = c .before .before .before .before .before .before in rule-room (bytes-of t) (reader-of t) (place-of t) (turn (c .before .before .before .before)) (c .if3 .taken)
+element-write-book-2 c =
+    let t = tested (c .before .before .before) in rule-room (bytes-of t) (reader-of t) (place-of t) (turn (c .before .before .before)) (c .if3 .taken)
+
+open-side-requires : tie.Need-open-side-requires Inv-loop μ-loop
+open-side-requires c κs = search needs
 
 loop-less-2 : tie.Need-loop-less-2 Inv-loop μ-loop
 loop-less-2 c = search needs
 
 loop-again-2 : tie.Need-loop-again-2 Inv-loop μ-loop
-unfolding withLeft bodyLength bodyLengths
+unfolding withLeft
 loop-again-2 c =
-    let t = c .before .before .before .before .before .before in
-    subst (λ (u : ℕ). Going (bytes-of t) (record { book = withLeft (reader-of t .book) u; stage = InLeft; missing = 1; nodes = 0 }) u)
-    (omega (arith, behind (c .before .before .before) 0 (ap bodyLength (c .if3 .taken))))
-    (rule-taken (bytes-of t) (reader-of t) (place-of t) (turn (c .before .before .before .before)) (c .if3 .taken))
+    let b = c .before .before .before .before in
+    let t = tested b in
+    again b (c .before .before .before .if1 .left)
+    (rule-next (bytes-of t) (reader-of t) (place-of t) (turn b) (c .before .if3 .taken)
+    ∙ ap₂ {C = Reader} (λ (u : ℕ) (side : Side). record { book = withLeft (reader-of t .book) u; side = side }) (place-behind b) (sym (c .open-side .ensures)))
 
-sub-missing : tie.Need-sub-missing Inv-loop μ-loop
-sub-missing c = node c .someMissing
+wide-requires : tie.Need-wide-requires Inv-loop μ-loop
+wide-requires c κs = search needs
+
+element-copy-out-opens : tie.Need-element-copy-out-opens Inv-loop μ-loop
+element-copy-out-opens c = omega (arith, c .wide .ensures .0, c .before .before .before .before .before .byte-at .ensures, node (c .before) .small)
 
 opens-requires : tie.Need-opens-requires Inv-loop μ-loop
-opens-requires c κs = subst (λ (b : ℕ). b < 16) (sym (tested c .before .byte-at .ensures)) (node c .body)
+opens-requires c κs = search needs
 
-add-missing : tie.Need-add-missing Inv-loop μ-loop
-add-missing c = omega (arith, c .opens .ensures .1, node (c .before) .room, c .before .before .before .before .before .before .before .before .before .before .before .before .loop .inv .bounded .missing)
+with-node-requires : tie.Need-with-node-requires Inv-loop μ-loop
+with-node-requires c κs =
+    let kept = tested (c .before .before .before .before .before .before) .before .before .loop .inv .kept in
+    (node (c .before .before .before) .someMissing, (omega (arith, kept .missing, kept .nodes), (omega (arith, kept .nodes), omega (arith, c .opens .ensures .1))))
 
-add-nodes : tie.Need-add-nodes Inv-loop μ-loop
-add-nodes c = omega (arith, node (c .before) .room)
-
-enum-told-2 : tie.Need-enum-told-2 Inv-loop μ-loop
-enum-told-2 c = search needs
-
-mul-book-2 : tie.Need-mul-book-2 Inv-loop μ-loop
-mul-book-2 c = omega (arith, node (c .before .before .before .before) .ruleRoom)
-
-element-write-book-3 : tie.Need-element-write-book-3 Inv-loop μ-loop
-element-write-book-3 c = node (c .before .before .before .before) .ruleRoom
-
-mul-book-3 : tie.Need-mul-book-3 Inv-loop μ-loop
-mul-book-3 c = omega (arith, node (c .before .before .before .before) .ruleRoom)
-
-element-write-book-4 : tie.Need-element-write-book-4 Inv-loop μ-loop
-element-write-book-4 c = node (c .before .before .before .before) .ruleRoom
+enum-known-after : tie.Need-enum-known-after Inv-loop μ-loop
+enum-known-after c = search needs
 
 loop-less-3 : tie.Need-loop-less-3 Inv-loop μ-loop
 loop-less-3 c = search needs
 
 loop-again-3 : tie.Need-loop-again-3 Inv-loop μ-loop
-unfolding withRight
+unfolding readerAfter
 loop-again-3 c =
-    let t = tested (c .before .before .before .before) in
-    let q = reader-of t in
-    subst (λ (u : ℕ). Going (bytes-of t) (record { book = withRight (q .book) (q .nodes + 1) u; stage = InRight; missing = 1; nodes = 0 }) u)
-    (behind-node (c .before .before .before .before))
-    (left-taken (bytes-of t) (reader-of t) (place-of t) (turn (c .before .before .before .before .before .before .before .before .before)) (node (c .before .before .before .before))
-    (q .missing - 1 + c .before .before .before .opens .result) (c .before .before .before .opens .result) (opens-its (c .before .before .before)) (c .before .before .before .opens .ensures .1) (omega arith) (c .before .before .if4 .taken) (c .enum-told2 .given .1))
+    let g = c .before .before .before in
+    again (taken g) (no-end g) (node-leaves g (c .before .after .given .1))
 
-mul-book-4 : tie.Need-mul-book-4 Inv-loop μ-loop
-mul-book-4 c = omega (arith, node (c .before .before .before) .ruleRoom)
+enum-known-after-2 : tie.Need-enum-known-after-2 Inv-loop μ-loop
+enum-known-after-2 c = search needs
 
-element-write-book-5 : tie.Need-element-write-book-5 Inv-loop μ-loop
-element-write-book-5 c = node (c .before .before .before) .ruleRoom
+mul-book-2 : tie.Need-mul-book-2 Inv-loop μ-loop
+mul-book-2 c = search needs
 
-add-book-2 : tie.Need-add-book-2 Inv-loop μ-loop
-add-book-2 c = search needs
+element-write-book-3 : tie.Need-element-write-book-3 Inv-loop μ-loop
+element-write-book-3 c = node (c .before .before .before .before .before .before .before) .ruleRoom
+
+mul-book-3 : tie.Need-mul-book-3 Inv-loop μ-loop
+mul-book-3 c = search needs
+
+element-write-book-4 : tie.Need-element-write-book-4 Inv-loop μ-loop
+element-write-book-4 c = node (c .before .before .before .before .before .before .before) .ruleRoom
+
+open-side-requires-2 : tie.Need-open-side-requires-2 Inv-loop μ-loop
+open-side-requires-2 c κs = search needs
 
 loop-less-4 : tie.Need-loop-less-4 Inv-loop μ-loop
 loop-less-4 c = search needs
 
 loop-again-4 : tie.Need-loop-again-4 Inv-loop μ-loop
-unfolding withRule
+unfolding readerAfter withRight
 loop-again-4 c =
-    let t = tested (c .before .before .before) in
-    let q = reader-of t in
-    subst₂ (λ (u m : ℕ). Going (bytes-of t) (record { book = withRule (q .book) (q .nodes + 1); stage = RuleWhole; missing = m; nodes = q .nodes + 1 }) u)
-    (behind-node (c .before .before .before)) (sym (c .before .if4 .taken))
-    (right-taken (bytes-of t) (reader-of t) (place-of t) (turn (c .before .before .before .before .before .before .before .before)) (node (c .before .before .before))
-    (q .missing - 1 + c .before .before .opens .result) (c .before .before .opens .result) (opens-its (c .before .before)) (c .before .before .opens .ensures .1) (omega arith) (c .before .if4 .taken) (right-side (q .stage) (node (c .before .before .before) .isOpen) (c .match2 .keys2)))
+    let g = c .before .before .before .before in
+    again (taken g) (no-end g)
+    (node-leaves g (c .before .before .after2 .given .1)
+    ∙ ap {B = Reader} (λ (side : Side). record { book = withRight (book-of g) (c .before .before .after2 .given .0 .0) (place-after g); side = side }) (sym (c .open-side2 .ensures)))
+
+enum-known-after-3 : tie.Need-enum-known-after-3 Inv-loop μ-loop
+enum-known-after-3 c = search needs
+
+mul-book-4 : tie.Need-mul-book-4 Inv-loop μ-loop
+mul-book-4 c = search needs
+
+element-write-book-5 : tie.Need-element-write-book-5 Inv-loop μ-loop
+element-write-book-5 c = node (c .before .before .before .before .before .before .before) .ruleRoom
+
+add-book-2 : tie.Need-add-book-2 Inv-loop μ-loop
+add-book-2 c = search needs
+
+no-side-requires-2 : tie.Need-no-side-requires-2 Inv-loop μ-loop
+no-side-requires-2 c κs = search needs
 
 loop-less-5 : tie.Need-loop-less-5 Inv-loop μ-loop
 loop-less-5 c = search needs
 
 loop-again-5 : tie.Need-loop-again-5 Inv-loop μ-loop
+unfolding readerAfter withRule
 loop-again-5 c =
-    let t = tested (c .before .before) in
-    let q = reader-of t in
-    subst (λ (u : ℕ). Going (bytes-of t) (record { book = q .book; stage = q .stage; missing = q .missing - 1 + c .before .opens .result; nodes = q .nodes + 1 }) u)
-    (behind-node (c .before .before))
-    (node-taken (bytes-of t) (reader-of t) (place-of t) (turn (c .before .before .before .before .before .before .before)) (node (c .before .before))
-    (q .missing - 1 + c .before .opens .result) (c .before .opens .result) (opens-its (c .before)) (c .before .opens .ensures .1) (omega arith) (c .if4 .left))
+    let g = c .before .before .before .before in
+    again (taken g) (no-end g)
+    (node-leaves g (c .before .before .after3 .given .1)
+    ∙ ap {B = Reader} (λ (side : Side). record { book = withRule (book-of g) (c .before .before .after3 .given .0 .0); side = side }) (sym (c .no-side2 .ensures)))
 
 refuse-requires-2 : tie.Need-refuse-requires-2 Inv-loop μ-loop
 refuse-requires-2 c κs = search needs
 
 returns-3 : tie.Need-returns-3 Inv-loop μ-loop
 returns-3 c =
-    let bytes = c .before .before .before .before .before .args .bytes .now in
-    let q : Reader = record { book = c .before .before .loop .book; stage = c .before .before .loop .stage; missing = c .before .before .loop .missing; nodes = c .before .before .loop .nodes } in
+    let bytes = c .before .before .before .before .before .before .args .bytes .now in
+    let at-loop = c .before .before .loop in
     promised bytes (c .refuse2 .result)
-    (c .refuse2 .ensures ∙ sym (ended-early bytes q (c .before .before .loop .at) (c .before .before .loop .inv .continues) (c .before .loop-test .left)))
+    (c .refuse2 .ensures ∙ sym (ended-early bytes (record { book = at-loop .book; side = at-loop .side }) (at-loop .at) (at-loop .inv .continues) (c .before .loop-test .left)))
 
 pub read-book-spec : {M : Type 1} → statement M
 read-book-spec =
@@ -291,15 +322,16 @@ read-book-spec =
     Inv-loop
     μ-loop
     nothing-read-requires
+    no-side-requires
     loop-holds
-    shared-slice-read-kind
-    add-byte-at
-    byte-at-requires
     check-record-requires
     enum-known-checked
     refuse-requires
     returns
     enum-told
+    shared-slice-read-kind
+    add-byte-at
+    byte-at-requires
     body-length-requires
     add-at
     add-at-2
@@ -311,24 +343,29 @@ read-book-spec =
     loop-again
     mul-book
     element-write-book-2
+    open-side-requires
     loop-less-2
     loop-again-2
-    sub-missing
+    wide-requires
+    element-copy-out-opens
     opens-requires
-    add-missing
-    add-nodes
-    enum-told-2
+    with-node-requires
+    enum-known-after
+    loop-less-3
+    loop-again-3
+    enum-known-after-2
     mul-book-2
     element-write-book-3
     mul-book-3
     element-write-book-4
-    loop-less-3
-    loop-again-3
+    open-side-requires-2
+    loop-less-4
+    loop-again-4
+    enum-known-after-3
     mul-book-4
     element-write-book-5
     add-book-2
-    loop-less-4
-    loop-again-4
+    no-side-requires-2
     loop-less-5
     loop-again-5
     refuse-requires-2

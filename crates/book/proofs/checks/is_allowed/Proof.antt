@@ -1,12 +1,12 @@
--- `book::is_allowed` meets its contract, kind by kind. Assumes nothing.
+-- `book::checks::is_allowed` meets its contract, kind by kind. Assumes nothing.
 use mathlib.Core.Bool.{false, not}
 use mathlib.Core.Path.{_≡_, refl, sym, ap, _∙_}
 use borrow.Author.Needs.{needs}
 use Rattle.term.specs.Tables.{Kind, kindOf}
-use Rattle.book.specs.Placed.{allowed}
+use Rattle.book.specs.Checks.{allowed}
 use Rattle.book.proofs.KindNumbers.{by-kind}
-use Rattle.book.proofs.is_allowed.Statement.{statement}
-use Rattle.book.proofs.is_allowed.Tie as tie
+use Rattle.book.proofs.checks.is_allowed.Statement.{statement}
+use Rattle.book.proofs.checks.is_allowed.Tie as tie
 
 no-rule-yet-requires : tie.Need-no-rule-yet-requires
 no-rule-yet-requires c κs = search needs

@@ -43,17 +43,17 @@ nodes-append (n ∷ nodes) this = ap (λ (l : List ℕ). nodeBytes n ++ l) (node
 
 -- One node more.
 pub one-more :
-    {bytes arities : List ℕ} {u missing : ℕ} {nodes : List Node} {p : ℕ} (this : Node) → SoFar bytes arities u missing nodes p → 0 < missing →
-    Allowed arities AnyVariable this → drop p bytes ≡ nodeBytes this ++ drop (p + 2) bytes →
-    SoFar bytes arities u (pred missing + arityOf arities this) (nodes ++ (this ∷ [])) (p + 2)
-one-more {bytes} {arities} {u} {missing} {nodes} {p} this so some ok its =
+    {bytes arities : List ℕ} {u missing : ℕ} {nodes : List Node} {p : ℕ} (e : ℕ) (this : Node) → SoFar bytes arities u missing nodes p → 0 < missing →
+    Allowed arities AnyVariable this → drop p bytes ≡ nodeBytes this ++ drop e bytes →
+    SoFar bytes arities u (pred missing + arityOf arities this) (nodes ++ (this ∷ [])) e
+one-more {bytes} {arities} {u} {missing} {nodes} {p} e this so some ok its =
     record {
       filled = leaves-next missing some (so .filled) ok;
       their-bytes =
           so .their-bytes
           ∙ ap (λ (l : List ℕ). nodesBytes nodes ++ l) its
-          ∙ sym (append-assoc (nodesBytes nodes) (nodeBytes this) (drop (p + 2) bytes))
-          ∙ ap (λ (l : List ℕ). l ++ drop (p + 2) bytes) (sym (nodes-append nodes this));
+          ∙ sym (append-assoc (nodesBytes nodes) (nodeBytes this) (drop e bytes))
+          ∙ ap (λ (l : List ℕ). l ++ drop e bytes) (sym (nodes-append nodes this));
     }
 
 -- What stands behind u is found at its place.

@@ -1,14 +1,14 @@
--- `book::is_known` meets its contract: 1 to 5 are kinds, 0 and what is above 5 are none. Assumes nothing.
+-- `book::checks::is_known` meets its contract: 1 to 5 are kinds, 0 and what is above 5 are none. Assumes nothing.
 use mathlib.Core.Bool.{false}
 use mathlib.Core.Path.{_≡_, refl}
 use native.Mathlib.Omega.{arith}
 use borrow.Author.Tests.{le-leb, lt-leb}
 use lib.Dec.{leb}
 use Rattle.term.specs.Tables.{Kind}
-use Rattle.book.specs.Reading.{known}
+use Rattle.book.specs.Checks.{known}
 use Rattle.book.proofs.KindNumbers.{by-kind}
-use Rattle.book.proofs.is_known.Statement.{statement}
-use Rattle.book.proofs.is_known.Tie as tie
+use Rattle.book.proofs.checks.is_known.Statement.{statement}
+use Rattle.book.proofs.checks.is_known.Tie as tie
 
 returns : tie.Need-returns
 unfolding known

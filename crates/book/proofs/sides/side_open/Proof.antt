@@ -1,9 +1,9 @@
--- `book::side_open` meets its contract. Assumes nothing.
+-- `book::sides::side_open` meets its contract. Assumes nothing.
 use mathlib.Core.Path.{sym, ap}
 use borrow.Author.Needs.{needs}
-use Rattle.book.specs.Placed.{sideOpen}
-use Rattle.book.proofs.side_open.Statement.{statement}
-use Rattle.book.proofs.side_open.Tie as tie
+use Rattle.book.specs.Sides.{sideOpen}
+use Rattle.book.proofs.sides.side_open.Statement.{statement}
+use Rattle.book.proofs.sides.side_open.Tie as tie
 
 enum-told : tie.Need-enum-told
 enum-told c = search needs

@@ -1,9 +1,9 @@
--- `book::no_rule_yet` meets its contract. Assumes nothing.
+-- `book::sides::no_rule_yet` meets its contract. Assumes nothing.
 use mathlib.Core.Path.{sym, ap}
 use borrow.Author.Needs.{needs}
-use Rattle.book.specs.Placed.{noRuleYet}
-use Rattle.book.proofs.no_rule_yet.Statement.{statement}
-use Rattle.book.proofs.no_rule_yet.Tie as tie
+use Rattle.book.specs.Sides.{noRuleYet}
+use Rattle.book.proofs.sides.no_rule_yet.Statement.{statement}
+use Rattle.book.proofs.sides.no_rule_yet.Tie as tie
 
 enum-told : tie.Need-enum-told
 enum-told c = search needs

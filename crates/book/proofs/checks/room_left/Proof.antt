@@ -1,11 +1,11 @@
--- `book::room_left` meets its contract, kind by kind. Assumes nothing.
+-- `book::checks::room_left` meets its contract, kind by kind. Assumes nothing.
 use mathlib.Core.Bool.{true}
 use mathlib.Core.Path.{_≡_, refl, sym, ap}
 use Rattle.term.specs.Tables.{Kind, kindOf}
-use Rattle.book.specs.Placed.{roomLeft}
+use Rattle.book.specs.Checks.{roomLeft}
 use Rattle.book.proofs.KindNumbers.{by-kind}
-use Rattle.book.proofs.room_left.Statement.{statement}
-use Rattle.book.proofs.room_left.Tie as tie
+use Rattle.book.proofs.checks.room_left.Statement.{statement}
+use Rattle.book.proofs.checks.room_left.Tie as tie
 
 returns : tie.Need-returns
 unfolding roomLeft kindOf

@@ -1,0 +1,95 @@
+// The tests of one record of a book.
+use crate::byte_at;
+use crate::sides::Side;
+use crate::sides::Stage;
+use crate::sides::no_rule_yet;
+use crate::sides::side_open;
+use crate::wide;
+use reply::Refusal;
+ghost use mathlib.Core.Path.{_≡_};
+ghost use Prim.Native.Nat.{_<_};
+ghost use lib.ListN.{length};
+ghost use Rattle.term.specs.Tables.{kindOf};
+ghost use Rattle.book.specs.Checks.{known, allowed, bodyFits, roomLeft, checkedAt, checkedAs};
+
+// Whether one record is taken.
+pub enum Checked {
+    Taken,
+    Refused(Refusal),
+}
+
+// Kinds 1 to 5.
+fn is_known(kind: u8) -> bool
+    ensures { λ r. ⌜ r ≡ known (kindOf kind) ⌝ }
+{
+    if kind < 1 { false } else { kind <= 5 }
+}
+
+// Refusal 3: a symbol after a rule, a node outside a side still open, a rule or the end while a side is open.
+fn is_allowed(kind: u8, stage: Stage) -> bool
+    ensures { λ r. ⌜ r ≡ allowed (kindOf kind) stage ⌝ }
+{
+    match kind {
+        1 => no_rule_yet(stage),
+        2 => !side_open(stage),
+        3 => side_open(stage),
+        4 => side_open(stage),
+        5 => !side_open(stage),
+        _ => false,
+    }
+}
+
+// Refusal 4: an arity above 6, a variable above 15, a symbol not declared.
+fn body_fits(kind: u8, symbols: usize, byte: u8) -> bool
+    ensures { λ r. ⌜ r ≡ bodyFits (kindOf kind) symbols byte ⌝ }
+{
+    match kind {
+        1 => byte <= 6,
+        3 => wide(byte) < symbols,
+        4 => byte <= 15,
+        _ => true,
+    }
+}
+
+// Refusal 5: the 17th symbol, the 33rd rule, the 11th node of a side.
+fn room_left(kind: u8, symbols: usize, rules: usize, nodes: usize) -> bool
+    ensures { λ r. ⌜ r ≡ roomLeft (kindOf kind) symbols rules nodes ⌝ }
+{
+    match kind {
+        1 => symbols < 16,
+        2 => rules < 32,
+        3 => nodes < 10,
+        4 => nodes < 10,
+        _ => true,
+    }
+}
+
+// The record whose kind byte stands at `at`, in the order 2, 1, 3, 4, 5.
+pub fn check_record(bytes: &[u8], at: usize, side: Side, symbols: usize, rules: usize) -> Checked
+    requires { ⌜ at < length (now bytes) ⌝ }
+    ensures { λ r. ⌜ r ≡ checkedAs (checkedAt (now (bytes .entry)) at side symbols rules) ⌝ }
+{
+    let len = bytes.len();
+    let kind = bytes[at];
+    if !is_known(kind) {
+        return Checked::Refused(Refusal::UnknownKind(at));
+    }
+    if len - at - 1 < term::body_length(kind) {
+        return Checked::Refused(Refusal::BookEnded(len));
+    }
+    let body = at + 1;
+    let stage = side.stage;
+    let allowed = is_allowed(kind, stage);
+    let fits = body_fits(kind, symbols, byte_at(bytes, body));
+    let room = room_left(kind, symbols, rules, side.nodes);
+    if !allowed {
+        return Checked::Refused(Refusal::NotAllowed(at));
+    }
+    if !fits {
+        return Checked::Refused(Refusal::BadBody(body));
+    }
+    if !room {
+        return Checked::Refused(Refusal::TooMany(at));
+    }
+    Checked::Taken
+}
