@@ -24,6 +24,7 @@ STYLE = """
   h1 { font-size: 1.5rem; margin: 0 } h2 { font-size: 1.1rem; margin: 2rem 0 .5rem }
   .verdict { border-left: .4rem solid #1f7a4d; background: #eef7f1; padding: .7rem 1rem; margin: 1rem 0 }
   .not { border-left: .4rem solid #b35c00; background: #fdf4e8; padding: .2rem 1rem .7rem; margin: 1rem 0 }
+  .not h2 { margin-top: .6rem }
   table { border-collapse: collapse; width: 100% }
   th, td { text-align: left; vertical-align: top; padding: .25rem .6rem .25rem 0; border-bottom: 1px solid #dde3e8; overflow-wrap: anywhere }
   th { font-weight: 600; width: 9.5rem } .rules th { width: 2.5rem }
@@ -38,8 +39,8 @@ rule is applied at whichever place. The proved check decided so from the ranks b
 
 SAYS_NOT = (
     "that the date is right. The rules may name the wrong date and still come to rest; whether they say what the treatment needs is read from the rules, by a person.",
-    "that a run stays below 256 nodes. A run stops as <code>too large</code> where the next term would pass them, and such a record names no date.",
-    "that any one budget is enough. A run that is <code>spent</code> has not come to rest yet, and its record names no date.",
+    "that a run stays below 256 nodes. A run stops as <code>too large</code> where the next term would pass them, before the record has come to rest.",
+    "that any one budget is enough. A run that is <code>spent</code> has not come to rest yet.",
     "anything of other bytes. Another book, or this one after a change, has another sum and needs its own clearance.",
 )
 
