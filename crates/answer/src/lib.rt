@@ -103,5 +103,5 @@ pub fn ranks_from_answer(book: &[u8], text: &[u8], out: &mut [u8]) -> Answered
         return Answered::Unreadable(verdict);
     };
     let places = read.book;
-    answer_to(book, places, clauses::blocks::variables(places), text, out)
+    answer_to(book, places, blocks::counting::variables(places), text, out)
 }

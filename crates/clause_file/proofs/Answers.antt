@@ -15,14 +15,14 @@ use Rattle.book.specs.Meaning.{told}
 use Rattle.book.specs.declared.BookVerdict.the-variants.{Readable, Ended, UnknownKind, NotAllowed, BadBody, TooMany, AfterEnd}
 use Rattle.order.specs.Meaning.{refusalOnly}
 use Rattle.clauses.specs.File.{clauseBytes, fileBlocks, blockOf}
-use Rattle.clauses.specs.Written.{writtenMeaning}
-use Rattle.clauses.specs.declared.Written.{Written}
-use Rattle.clauses.specs.declared.Written.the-variants.{Laid, Unreadable, NoBlock, ShortBuffer}
+use Rattle.blocks.specs.Written.{writtenMeaning}
+use Rattle.blocks.specs.declared.Written.{Written}
+use Rattle.blocks.specs.declared.Written.the-variants.{Laid, Unreadable, NoBlock, ShortBuffer}
 use Rattle.book.specs.Limits.{WithinLimits}
 use Rattle.clauses.proofs.Counts.{blocks-counted}
 use Rattle.clauses.specs.Blocks.{blocks}
-use Rattle.clauses.proofs.BlockCall.{no-block, short-room, its-text}
-use Rattle.clauses.proofs.Written.{enum}
+use Rattle.clauses.proofs.BlockReply.{no-block, short-room, its-text}
+use Rattle.blocks.proofs.Written.{enum}
 use Rattle.clause_file.specs.Filling.{fitting}
 use Rattle.clause_file.proofs.Fitting.{fitting-short, fitting-none}
 

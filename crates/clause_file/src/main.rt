@@ -1,8 +1,8 @@
 // The clause program: reads a book from standard input and prints all blocks of its clause file, or the one line `refused N at P`.
+use blocks::Written;
+use blocks::writing::write_read_block;
 use book::Book;
 use book::BookVerdict;
-use clauses::Written;
-use clauses::blocks::write_read_block;
 use libc::STDIN_FILENO;
 use libc::STDOUT_FILENO;
 ghost use mathlib.Core.Path.{_≡_};
@@ -10,7 +10,7 @@ ghost use Prim.Native.Nat.{_≤_};
 ghost use lib.ListN.{length, drop};
 ghost use Rattle.book.specs.Meaning.{bookAt};
 ghost use Rattle.clauses.specs.File.{fileBlocks};
-ghost use Rattle.clauses.specs.Read.{ReadFrom};
+ghost use Rattle.book.specs.WasRead.{ReadFrom};
 ghost use Rattle.clause_file.specs.Filling.{fitting, FilledWith};
 
 // Blocks laid into a buffer: how many bytes they have, and the number of the block behind them.

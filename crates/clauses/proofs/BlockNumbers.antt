@@ -3,6 +3,7 @@ use Prim.Native.Nat.{ℕ, zero, suc, _+_, _-_, _*_, _/_, _%_, _≤_, _<_}
 use mathlib.Core.Bool.{Bool, true, false}
 use mathlib.Core.List.{List, [], _∷_, _++_, map, flatMap}
 use mathlib.Core.Option.{Option, none, some}
+use mathlib.Core.Logic.{_≢_}
 use mathlib.Core.Path.{_≡_, refl, sym, ap, ap₂, subst, _∙_}
 use native.Mathlib.Nat.{div-add-mod', div-lt-iff-lt-mul, mod-lt, mul-zero}
 use native.Mathlib.Omega.{arith}
@@ -16,22 +17,18 @@ use Rattle.book.specs.Book.{Rule}
 use Rattle.clauses.specs.Cnf.{is, Clause}
 use Rattle.clauses.specs.Numbering.{numbers}
 use Rattle.clauses.specs.Blocks.{pairBlock, pairBlocksOf, pairBlocks, Numbered, subterms, Setting, CAt, nodeBlock, ruleBlocks}
-use Rattle.clauses.specs.Pairs.{Pair}
+use Rattle.clauses.specs.Pairs.{Pair, otherSymbol}
 use Rattle.clauses.proofs.Inside.{subterms-counted}
 use Rattle.clauses.proofs.Elements.{element-map, element-is, element-row, rows-length}
 use Rattle.clauses.proofs.Lists.{numbers-length}
 
--- The r-th symbol besides f.
-unfoldable pub besides : (f r : ℕ) → ℕ
-besides f r = elim (ltb r f) [ true ↦ r | false ↦ r + 1 ]
+pub other-below : (f r : ℕ) → r < f → otherSymbol f r ≡ r
+unfolding otherSymbol
+other-below f r h = rw (lt-ltb r f h, otherSymbol)
 
-besides-below : (f r : ℕ) → r < f → besides f r ≡ r
-unfolding besides
-besides-below f r h = rw (lt-ltb r f h, besides)
-
-besides-above : (f r : ℕ) → f ≤ r → besides f r ≡ r + 1
-unfolding besides
-besides-above f r h = rw (le-ltb r f h, besides)
+pub other-above : (f r : ℕ) → f ≤ r → otherSymbol f r ≡ r + 1
+unfolding otherSymbol
+other-above f r h = rw (le-ltb r f h, otherSymbol)
 
 number-at : (first count i : ℕ) → i < count → getElem? (numbers first count) i ≡ some (first + i)
 unfolding numbers
@@ -82,15 +79,15 @@ module _ (n k f : ℕ) where
       ]
 
   around-here :
-      (a m r : ℕ) → (a < f → ⊥) → a ≤ f → r < m → getElem? (pairBlocksOf n k f (a ∷ numbers (suc a) m)) r ≡ some (pairBlock n k f (besides f (a + r)))
+      (a m r : ℕ) → (a < f → ⊥) → a ≤ f → r < m → getElem? (pairBlocksOf n k f (a ∷ numbers (suc a) m)) r ≡ some (pairBlock n k f (otherSymbol f (a + r)))
   around-here a m r here h l =
       let same : suc a + r ≡ a + r + 1 = omega arith in
       ap (λ (l : List (List Clause)). getElem? l r) (skip a (numbers (suc a) m) (omega arith))
       ∙ behind-at (suc a) m r (omega arith) l
-      ∙ ap (λ (g : ℕ). some (pairBlock n k f g)) (same ∙ sym (besides-above f (a + r) (omega arith)))
+      ∙ ap (λ (g : ℕ). some (pairBlock n k f g)) (same ∙ sym (other-above f (a + r) (omega arith)))
 
   around-at :
-      (a m r : ℕ) → a ≤ f → f < a + m → r < m - 1 → getElem? (pairBlocksOf n k f (numbers a m)) r ≡ some (pairBlock n k f (besides f (a + r)))
+      (a m r : ℕ) → a ≤ f → f < a + m → r < m - 1 → getElem? (pairBlocksOf n k f (numbers a m)) r ≡ some (pairBlock n k f (otherSymbol f (a + r)))
   unfolding numbers
   around-at a zero r h k′ l = absurd (omega arith)
   around-at a (suc m) zero h k′ l =
@@ -98,7 +95,7 @@ module _ (n k f : ℕ) where
         | yes before ↦
             let same : a ≡ a + 0 = omega arith in
             ap (λ (l : List (List Clause)). getElem? l 0) (keep a (numbers (suc a) m) (λ e. omega arith))
-            ∙ ap (λ (g : ℕ). some (pairBlock n k f g)) (same ∙ sym (besides-below f (a + 0) (omega arith)))
+            ∙ ap (λ (g : ℕ). some (pairBlock n k f g)) (same ∙ sym (other-below f (a + 0) (omega arith)))
         | no here ↦ around-here a m 0 here h (omega arith)
       ]
   around-at a (suc m) (suc r) h k′ l =
@@ -107,7 +104,7 @@ module _ (n k f : ℕ) where
             let same : suc a + r ≡ a + suc r = omega arith in
             ap (λ (l : List (List Clause)). getElem? l (suc r)) (keep a (numbers (suc a) m) (λ e. omega arith))
             ∙ around-at (suc a) m r (omega arith) (omega arith) (omega arith)
-            ∙ ap (λ (g : ℕ). some (pairBlock n k f (besides f g))) same
+            ∙ ap (λ (g : ℕ). some (pairBlock n k f (otherSymbol f g))) same
         | no here ↦ around-here a m (suc r) here h (omega arith)
       ]
 
@@ -122,8 +119,8 @@ pairs-count n k =
     rows-length (λ f. pairBlocksOf n k f (numbers 0 n)) (n - 1) (numbers 0 n) (pairs-width n k 0 n (omega arith))
     ∙ ap (λ (m : ℕ). m * (n - 1)) (numbers-length 0 n)
 
--- The pair with number p: f is p divided by n − 1, and g the symbol besides f with the remainder's number.
-pub pair-at : (n k f r : ℕ) → f < n → r < n - 1 → getElem? (pairBlocks n k) (f * (n - 1) + r) ≡ some (pairBlock n k f (besides f r))
+-- The pair with number p: f is p divided by n − 1, and g the symbol otherSymbol f with the remainder's number.
+pub pair-at : (n k f r : ℕ) → f < n → r < n - 1 → getElem? (pairBlocks n k) (f * (n - 1) + r) ≡ some (pairBlock n k f (otherSymbol f r))
 unfolding pairBlocks
 pair-at n k f r h l =
     let zeroth : 0 + f ≡ f = omega arith in
@@ -131,7 +128,7 @@ pair-at n k f r h l =
     element-row (λ f. pairBlocksOf n k f (numbers 0 n)) (n - 1) (numbers 0 n) (pairs-width n k 0 n (omega arith)) f r
     (number-at 0 n f h ∙ ap some zeroth) l
     ∙ around-at n k f 0 n r (omega arith) (omega arith) l
-    ∙ ap (λ (g : ℕ). some (pairBlock n k f (besides f g))) same
+    ∙ ap (λ (g : ℕ). some (pairBlock n k f (otherSymbol f g))) same
 
 -- A pair by its number p.
 module _ (n p others : ℕ) (few : n ≤ 16) (within : p < n * (n - 1)) (e : others ≡ n - 1) where
@@ -148,27 +145,27 @@ module _ (n p others : ℕ) (few : n ≤ 16) (within : p < n * (n - 1)) (e : oth
   rest-below : p % others < n - 1
   rest-below = omega (arith, mod-lt p some-others)
 
-  pub pair-below : p % others < p / others → Pair n (p / others) (p % others)
-  pair-below h = record { few = few; one = omega (arith, first-below); other = omega (arith, rest-below); different = λ same. omega arith }
+  pub rest-small : p % others < 16
+  rest-small = omega (arith, rest-below)
 
-  pub pair-above : p / others ≤ p % others → Pair n (p / others) (p % others + 1)
-  pair-above h = record { few = few; one = omega (arith, first-below); other = omega (arith, rest-below); different = λ same. omega arith }
+  pub pair-of-number : Pair n (p / others) (otherSymbol (p / others) (p % others))
+  pair-of-number =
+      elim (decLt (p % others) (p / others)) [
+        | yes below ↦ of-symbol (other-below (p / others) (p % others) below) (omega (arith, rest-below)) (λ same. omega arith)
+        | no above ↦ of-symbol (other-above (p / others) (p % others) (omega arith)) (omega (arith, rest-below)) (λ same. omega arith)
+      ]
+    where
+      of-symbol : {g : ℕ} → otherSymbol (p / others) (p % others) ≡ g → g < 16 → p / others ≢ g → Pair n (p / others) (otherSymbol (p / others) (p % others))
+      of-symbol same small differ =
+          rw same (record { few = few; one = omega (arith, first-below); other = small; different = differ })
 
-  numbered : (k : ℕ) → pairBlock n k (p / others) (besides (p / others) (p % others)) ≡ getD (pairBlocks n k) p []
-  numbered k =
-      element-is (pairBlocks n k) p []
-      (ap (getElem? (pairBlocks n k)) (sym (div-add-mod' p others) ∙ ap (λ (m : ℕ). p / others * m + p % others) e)
-      ∙ pair-at n k (p / others) (p % others) first-below rest-below)
-
-  pub pair-below-at :
-      {k bits : ℕ} → k ≡ bits → p % others < p / others → pairBlock n k (p / others) (p % others) ≡ getD (pairBlocks n bits) p []
-  pair-below-at {bits = bits} f h =
-      ap₂ (λ (k g : ℕ). pairBlock n k (p / others) g) f (sym (besides-below (p / others) (p % others) h)) ∙ numbered bits
-
-  pub pair-above-at :
-      {k bits : ℕ} → k ≡ bits → p / others ≤ p % others → pairBlock n k (p / others) (p % others + 1) ≡ getD (pairBlocks n bits) p []
-  pair-above-at {bits = bits} f h =
-      ap₂ (λ (k g : ℕ). pairBlock n k (p / others) g) f (sym (besides-above (p / others) (p % others) h)) ∙ numbered bits
+  pub block-of-number :
+      {k bits g : ℕ} → k ≡ bits → g ≡ otherSymbol (p / others) (p % others) → pairBlock n k (p / others) g ≡ getD (pairBlocks n bits) p []
+  block-of-number {bits = bits} f g =
+      ap₂ (λ (k g : ℕ). pairBlock n k (p / others) g) f g
+      ∙ element-is (pairBlocks n bits) p []
+      (ap (getElem? (pairBlocks n bits)) (sym (div-add-mod' p others) ∙ ap (λ (m : ℕ). p / others * m + p % others) e)
+      ∙ pair-at n bits (p / others) (p % others) first-below rest-below)
 
 -- The blocks of a rule.
 module _ (c : Setting) (rule : Rule) where

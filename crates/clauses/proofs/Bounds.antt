@@ -15,7 +15,7 @@ use Rattle.book.specs.Limits.{WithinLimits}
 use Rattle.clauses.specs.Cnf.{Literal, is, isNot, Clause}
 use Rattle.clauses.specs.Numbering.{firstBase, baseAfter}
 use Rattle.clauses.specs.Blocks.{blocks, baseBehind, «V»}
-use Rattle.clauses.specs.File.{literalBytes, clauseBytes, header, fileBlocks}
+use Rattle.clauses.specs.File.{literalBytes, clauseBytes, header, fileBlocks, countsText}
 use Rattle.clauses.proofs.Items.{Within, variableOf, Over}
 use Rattle.clauses.proofs.WithinV.{blocks-within-V}
 use Rattle.clauses.proofs.Counts.{Small, small-rules, clauses-at-most}
@@ -67,7 +67,7 @@ block-length top h (c ∷ cs) o =
     rw (length-append, length-append) (omega (arith, literals-length top h c (o .0), block-length top h cs (o .1)))
 
 header-length : (book : Book) → WithinLimits book → length (header book) ≤ 512
-unfolding header ascii
+unfolding header countsText ascii
 header-length book limits =
     simp length-append
     (omega (

@@ -19,7 +19,7 @@ use Rattle.book.specs.Book.{Book}
 use Rattle.book.specs.Limits.{WithinLimits}
 use Rattle.book.specs.Reading.{readBook}
 use Rattle.clauses.specs.Cnf.{Literal, is, isNot, Clause}
-use Rattle.clauses.specs.File.{literalBytes, clauseBytes, header, fileBlocks, fileBytes, clauseFile, printed, clauseProgram}
+use Rattle.clauses.specs.File.{literalBytes, clauseBytes, header, fileBlocks, fileBytes, clauseFile, printed, clauseProgram, countsText}
 use Rattle.clauses.specs.Blocks.{blocks, «V»}
 use Rattle.clauses.specs.Dimacs.{blank, ahead, clausesOf, counted, behindHeader, fromWords, readDimacs}
 use Rattle.clauses.specs.Computing.{computing}
@@ -133,7 +133,8 @@ unfolding clauseProgram printed
 program-prints bytes book e = ap printed e
 
 pub file-reads-back : (book : Book) → WithinLimits book → readDimacs (fileBytes book) ≡ some (clauseFile book)
-unfolding fileBytes fileBlocks clauseFile header flatten
+unfolding fileBytes fileBlocks clauseFile header countsText flatten
 file-reads-back book limits =
     rw (flat-blocks (blocks book))
-    (text-reads-back («V» book) (flatten (blocks book)) (every-flatten (Over («V» book)) (blocks book) (blocks-within-V book limits)))
+    (simp (← append-assoc)
+    (text-reads-back («V» book) (flatten (blocks book)) (every-flatten (Over («V» book)) (blocks book) (blocks-within-V book limits))))

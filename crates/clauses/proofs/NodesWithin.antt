@@ -12,7 +12,7 @@ use Rattle.reply.proofs.Tests.{differ}
 use Rattle.term.specs.Term.{Term, var, app, size, over, same}
 use Rattle.clauses.specs.Cnf.{Literal, is, isNot}
 use Rattle.clauses.specs.Numbering.{G}
-use Rattle.clauses.specs.Blocks.{Numbered, numberedArgs, Setting, CAt, DAt, partsBehind, partsOfD, partsOfC, someIdentical, allParts, someParts, nodeBlock}
+use Rattle.clauses.specs.Blocks.{Numbered, numberedArgs, Setting, CAt, DAt, partsBehind, partsOfD, partsOfC, someIdentical, allParts, someParts, nodeBlock, clausesOfC}
 use Rattle.clauses.proofs.Items.{Within, variableOf, Over}
 use Rattle.clauses.proofs.Inside.{Inside, arguments-inside, size-positive, symbol-declared, arguments-over}
 
@@ -107,7 +107,7 @@ module _ (arities : List ℕ) (top lefts : ℕ) (c : Setting) (fits : Fits ariti
       (fits .D-fits u v (omega arith) hv, tt)
 
   pub node-block-over : (s t : Numbered) → Inside arities lefts s → Inside arities (c .width) t → Every (Over top) (nodeBlock c s t)
-  unfolding nodeBlock
+  unfolding nodeBlock clausesOfC
   node-block-over s t i j =
       every-append (Over top) (allParts d (partsOfD c (s .node) (t .node) (s .term) (t .term))) _
       (all-parts-over top d (fits .D-fits (s .node) (t .node) hu hv) (partsOfD c (s .node) (t .node) (s .term) (t .term))

@@ -10,17 +10,17 @@ use lib.ListN.{length, length-append}
 use Rattle.reply.proofs.Every.{Every, every-flatMap, every-implied, every-of-members}
 use Rattle.clauses.specs.Cnf.{Clause}
 use Rattle.clauses.specs.Numbering.{numbers}
-use Rattle.clauses.specs.Blocks.{pairClauses, pairBlock, pairBlocksOf, pairBlocks}
+use Rattle.clauses.specs.Blocks.{pairClauses, pairBlock, pairBlocksOf, pairBlocks, lowestBit, higherBit}
 use Rattle.clauses.proofs.BlockNumbers.{pairs-count}
 
 module _ (n k f g : ℕ) where
   higher-count : (first count : ℕ) → length (flatMap (pairClauses n k f g) (numbers (suc first) count)) ≡ 6 * count
-  unfolding flatMap numbers pairClauses
+  unfolding flatMap numbers pairClauses lowestBit higherBit
   higher-count first zero = refl
   higher-count first (suc count) = omega (arith, higher-count (suc first) count)
 
   bits-count : (count : ℕ) → length (flatMap (pairClauses n k f g) (numbers 0 count)) ≡ 6 * count - 3
-  unfolding flatMap numbers pairClauses
+  unfolding flatMap numbers pairClauses lowestBit higherBit
   bits-count zero = refl
   bits-count (suc count) = omega (arith, higher-count 0 count)
 

@@ -9,7 +9,7 @@ use borrow.Author.Tests.{eqb-true, eqb-false}
 use lib.Dec.{T, eqb}
 use Rattle.clauses.specs.Cnf.{Assignment, holds, someHolds, allHold}
 use Rattle.clauses.specs.Numbering.{bit, G, numbers}
-use Rattle.clauses.specs.Blocks.{pairClauses, pairBlock, pairBlocksOf, pairBlocks}
+use Rattle.clauses.specs.Blocks.{pairClauses, pairBlock, pairBlocksOf, pairBlocks, lowestBit, higherBit}
 use Rattle.clauses.proofs.Equations.{lowBits, PairEquations}
 use Rattle.clauses.proofs.ClauseLists.{tests-whether, by-members, allHold-append, blocksHold-append, numbers-below}
 
@@ -55,7 +55,7 @@ pairBit-exactly :
     (n k f g b : ℕ) (α : Assignment) →
     T (allHold α (pairClauses n k f g b))
     ↔ (α (G n k f g (suc b)) ≡ (α (bit k f b) && not (α (bit k g b)) || Bool·beq (α (bit k f b)) (α (bit k g b)) && lowBits n k α f g b))
-unfolding pairClauses allHold someHolds holds lowBits
+unfolding pairClauses lowestBit higherBit allHold someHolds holds lowBits
 pairBit-exactly n k f g zero α = tests-whether (first-bit (α (G n k f g 1)) (α (bit k f 0)) (α (bit k g 0)))
 pairBit-exactly n k f g (suc b) α =
     tests-whether (later-bit (α (G n k f g (suc (suc b)))) (α (bit k f (suc b))) (α (bit k g (suc b))) (α (G n k f g (suc b))))

@@ -27,6 +27,7 @@ use Rattle.clauses.specs.Blocks.{
   ruleBlocks,
   rulesBlocks,
   blocks,
+  clausesOfC,
 }
 use Rattle.clauses.proofs.Equations.{
   everyTrue,
@@ -130,7 +131,7 @@ unit-exactly α v = tests-whether (go (α v))
 
 -- D's equation, and C's by whether some argument is identical.
 node-exactly : (c : Setting) (α : Assignment) (s t : Numbered) → T (allHold α (nodeBlock c s t)) ↔ NodeEquations c α s t
-unfolding nodeBlock
+unfolding nodeBlock clausesOfC
 node-exactly c α s t =
     let e = split (someIdentical (s .term) (t .term)) refl in
     (λ h. record { root = e .0 h .0; whole = e .0 h .1 }, λ h. e .1 (h .root, h .whole))
@@ -148,12 +149,12 @@ node-exactly c α s t =
         (identical : Bool) → someIdentical (s .term) (t .term) ≡ identical →
         T (allHold α (nodeBlock c s t)) ↔ ((α (DAt c (s .node) (t .node)) ≡ everyTrue α parts) × Whole identical)
     split true e =
-        rw (nodeBlock, e)
+        rw (nodeBlock, clausesOfC, e)
         (clauses-both α root ((is (CAt c (s .node) (t .node)) ∷ []) ∷ [])
         (allParts-exactly α (DAt c (s .node) (t .node)) parts)
         (unit-exactly α (CAt c (s .node) (t .node))))
     split false e =
-        rw (nodeBlock, e)
+        rw (nodeBlock, clausesOfC, e)
         (clauses-both α root (someParts (CAt c (s .node) (t .node)) (partsOfC c (s .node) (t .node) (s .term)))
         (allParts-exactly α (DAt c (s .node) (t .node)) parts)
         (someParts-exactly α (CAt c (s .node) (t .node)) (partsOfC c (s .node) (t .node) (s .term))))

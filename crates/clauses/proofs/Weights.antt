@@ -16,7 +16,7 @@ use Rattle.book.specs.Book.{Book, symbols}
 use Rattle.book.specs.Limits.{WithinLimits}
 use Rattle.clauses.specs.Cnf.{Literal, is, isNot, Clause}
 use Rattle.clauses.specs.Numbering.{numbers}
-use Rattle.clauses.specs.Blocks.{pairClauses, pairBlock, Numbered, numberedArgs, Setting, CAt, DAt, partsBehind, partsOfD, partsOfC, someIdentical, allParts, someParts, nodeBlock, blocks}
+use Rattle.clauses.specs.Blocks.{pairClauses, pairBlock, Numbered, numberedArgs, Setting, CAt, DAt, partsBehind, partsOfD, partsOfC, someIdentical, allParts, someParts, nodeBlock, blocks, lowestBit, higherBit, clausesOfC}
 use Rattle.clauses.proofs.Inside.{Inside, arity-kept, symbol-declared, arguments-counted}
 use Rattle.clauses.proofs.EachBlock.{setting, each-block}
 
@@ -30,7 +30,7 @@ weight-append (c ∷ b) d = omega (arith, weight-append b d)
 
 -- A pair's block.
 pair-clauses-weight : (n k f g b : ℕ) → weight (pairClauses n k f g b) ≤ 120
-unfolding pairClauses
+unfolding pairClauses lowestBit higherBit
 pair-clauses-weight n k f g zero = omega arith
 pair-clauses-weight n k f g (suc i) = omega arith
 
@@ -108,7 +108,7 @@ arguments-at-most arities six (app f ts) o =
     omega (arith, arity-kept arities f ts o, every-at (λ a. a ≤ 6) arities f 0 (symbol-declared arities f ts o) six)
 
 node-block-weight : (c : Setting) (s t : Numbered) → arguments (s .term) ≤ 6 → arguments (t .term) ≤ 6 → weight (nodeBlock c s t) ≤ 296
-unfolding nodeBlock
+unfolding nodeBlock clausesOfC
 node-block-weight c s t hs ht = rw weight-append (omega (arith, ofD, ofC (someIdentical (s .term) (t .term))))
   where
     ofD : weight (allParts (DAt c (s .node) (t .node)) (partsOfD c (s .node) (t .node) (s .term) (t .term))) ≤ 148

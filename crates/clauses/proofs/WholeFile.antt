@@ -12,7 +12,7 @@ use Rattle.book.specs.Book.{Book}
 use Rattle.book.specs.Reading.{readBook}
 use Rattle.clauses.specs.File.{fileBlocks, fileBytes, block, printed, clauseProgram}
 use Rattle.clauses.specs.Numbering.{numbers}
-use Rattle.clauses.proofs.BlockCall.{no-block, short-room, its-text, block-of-read}
+use Rattle.clauses.proofs.BlockReply.{no-block, short-room, its-text, block-of-read}
 use Rattle.clauses.proofs.Elements.{element-none, element-there}
 
 -- The text that a reply gives; a refusal gives none.

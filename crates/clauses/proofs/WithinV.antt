@@ -11,7 +11,7 @@ use Rattle.term.proofs.Tables.{rank-bits-least}
 use Rattle.book.specs.Book.{Book, Rule, symbols}
 use Rattle.book.specs.Limits.{WithinLimits}
 use Rattle.clauses.specs.Numbering.{bit, G, firstBase, baseAfter, numbers}
-use Rattle.clauses.specs.Blocks.{pairClauses, pairBlock, CAt, DAt, blocks, «V»}
+use Rattle.clauses.specs.Blocks.{pairClauses, pairBlock, CAt, DAt, blocks, «V», lowestBit, higherBit}
 use Rattle.clauses.proofs.Items.{Within, Over}
 use Rattle.clauses.proofs.ClauseLists.{numbers-below}
 use Rattle.clauses.proofs.Numbers.{bit-within, G-within, C-within, D-within, base-grows}
@@ -31,7 +31,7 @@ module _ (n k top : ℕ) (room : firstBase n k ≤ top) where
   G-over f g j hf hg ne pos h = within-more (firstBase n k) top (G n k f g j) room (G-within n k f g j hf hg ne pos h)
 
   pair-clauses-over : (f g b : ℕ) → f < n → g < n → f ≢ g → b < k → Every (Over top) (pairClauses n k f g b)
-  unfolding pairClauses
+  unfolding pairClauses lowestBit higherBit
   pair-clauses-over f g zero hf hg ne hb =
       let larger = G-over f g 1 hf hg ne (omega arith) (omega arith) in
       let a = bit-over f 0 hf hb in

@@ -10,18 +10,13 @@ use Rattle.order.specs.Test.{someArg}
 use Rattle.clauses.specs.Cnf.{Literal, is, isNot, Clause}
 use Rattle.clauses.specs.Numbering.{bit, G, firstBase, baseAfter, C, D, numbers}
 
--- "With G for G(f,g,j), a and b for bit j−1 of f and g, q for G(f,g,j−1)"; here by the bit j−1.
-unfoldable pub pairClauses : (n k f g b : ℕ) → List Clause
-pairClauses n k f g zero =
-    let g₁ = G n k f g 1 in
-    let a = bit k f 0 in
-    let b = bit k g 0 in
-    (isNot g₁ ∷ is a ∷ []) ∷ (isNot g₁ ∷ isNot b ∷ []) ∷ (is g₁ ∷ isNot a ∷ is b ∷ []) ∷ []
-pairClauses n k f g (suc i) =
-    let gⱼ = G n k f g (suc (suc i)) in
-    let a = bit k f (suc i) in
-    let b = bit k g (suc i) in
-    let q = G n k f g (suc i) in
+-- "for j = 1 (−G a)(−G −b)(G −a b)"
+unfoldable pub lowestBit : (g₁ a b : ℕ) → List Clause
+lowestBit g₁ a b = (isNot g₁ ∷ is a ∷ []) ∷ (isNot g₁ ∷ isNot b ∷ []) ∷ (is g₁ ∷ isNot a ∷ is b ∷ []) ∷ []
+
+-- "for larger j (G −a b)(G −a −q)(G b −q)(−G a −b)(−G a q)(−G −b q)"
+unfoldable pub higherBit : (gⱼ a b q : ℕ) → List Clause
+higherBit gⱼ a b q =
     (is gⱼ ∷ isNot a ∷ is b ∷ [])
     ∷ (is gⱼ ∷ isNot a ∷ isNot q ∷ [])
     ∷ (is gⱼ ∷ is b ∷ isNot q ∷ [])
@@ -29,6 +24,11 @@ pairClauses n k f g (suc i) =
     ∷ (isNot gⱼ ∷ is a ∷ is q ∷ [])
     ∷ (isNot gⱼ ∷ isNot b ∷ is q ∷ [])
     ∷ []
+
+-- "With G for G(f,g,j), a and b for bit j−1 of f and g, q for G(f,g,j−1)"; here by the bit j−1.
+unfoldable pub pairClauses : (n k f g b : ℕ) → List Clause
+pairClauses n k f g zero = lowestBit (G n k f g 1) (bit k f 0) (bit k g 0)
+pairClauses n k f g (suc i) = higherBit (G n k f g (suc (suc i))) (bit k f (suc i)) (bit k g (suc i)) (G n k f g (suc i))
 
 unfoldable pub pairBlock : (n k f g : ℕ) → List Clause
 pairBlock n k f g = flatMap (pairClauses n k f g) (numbers 0 k)
@@ -116,14 +116,16 @@ allParts whole (q ∷ qs) = map (λ q′. isNot whole ∷ is q′ ∷ []) (q ∷
 unfoldable pub someParts : (whole : ℕ) (parts : List ℕ) → List Clause
 someParts whole parts = map (λ q. is whole ∷ isNot q ∷ []) parts ++ ((isNot whole ∷ map is parts) ∷ [])
 
--- The block of nodes u and v, s and t their subterms: "D first", then C, "if some si is identical to t: (C)".
+-- C's clauses: "If some si is identical to t: (C). Otherwise its parts are C(si,t) for each i, then D".
+unfoldable pub clausesOfC : Setting → (u v : ℕ) (s t : Term) → List Clause
+clausesOfC c u v s t =
+    elim (someIdentical s t) [ true ↦ (is (CAt c u v) ∷ []) ∷ [] | false ↦ someParts (CAt c u v) (partsOfC c u v s) ]
+
+-- The block of nodes u and v, s and t their subterms: "D first", then C.
 unfoldable pub nodeBlock : Setting → (s t : Numbered) → List Clause
 nodeBlock c s t =
     allParts (DAt c (s .node) (t .node)) (partsOfD c (s .node) (t .node) (s .term) (t .term))
-    ++ elim (someIdentical (s .term) (t .term)) [
-      | true ↦ (is (CAt c (s .node) (t .node)) ∷ []) ∷ []
-      | false ↦ someParts (CAt c (s .node) (t .node)) (partsOfC c (s .node) (t .node) (s .term))
-    ]
+    ++ clausesOfC c (s .node) (t .node) (s .term) (t .term)
 
 -- "for each rule a block (C of 0,0), and a block for each (u,v), v fastest"
 unfoldable pub ruleBlocks : Setting → Rule → List (List Clause)

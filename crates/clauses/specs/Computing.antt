@@ -4,6 +4,8 @@ use Rattle.order.specs.Computing
 use Rattle.clauses.specs.Cnf.{holds, someHolds, allHold, Satisfies}
 use Rattle.clauses.specs.Numbering.{bit, pairNumber, G, firstBase, baseAfter, C, D, numbers, rankBelow, ranksOf}
 use Rattle.clauses.specs.Blocks.{
+  lowestBit,
+  higherBit,
   pairClauses,
   pairBlock,
   pairBlocksOf,
@@ -18,6 +20,7 @@ use Rattle.clauses.specs.Blocks.{
   someIdentical,
   allParts,
   someParts,
+  clausesOfC,
   nodeBlock,
   ruleBlocks,
   rulesBlocks,
@@ -29,6 +32,7 @@ use Rattle.clauses.specs.File.{
   clauseFile,
   literalBytes,
   clauseBytes,
+  countsText,
   header,
   fileBlocks,
   fileBytes,
@@ -42,5 +46,5 @@ use Rattle.clauses.specs.Item.{signed, literalOf, item}
 use Rattle.clauses.specs.Dimacs.{blank, ahead, allClosed, clausesOf, counted, behindHeader, fromWords, readDimacs}
 
 unfoldable pub computing : Unit {0}
-unfolding Computing.computing flatMap flatten holds someHolds allHold Satisfies bit pairNumber G firstBase baseAfter C D numbers rankBelow ranksOf pairClauses pairBlock pairBlocksOf pairBlocks numberedArgs subterms CAt DAt partsBehind partsOfD partsOfC someIdentical allParts someParts nodeBlock ruleBlocks rulesBlocks blocks baseBehind «V» clauseFile literalBytes clauseBytes header fileBlocks fileBytes numberedBlock blockOf block printed clauseProgram signed literalOf item blank ahead allClosed clausesOf counted behindHeader fromWords readDimacs
+unfolding Computing.computing flatMap flatten holds someHolds allHold Satisfies bit pairNumber G firstBase baseAfter C D numbers rankBelow ranksOf lowestBit higherBit pairClauses pairBlock pairBlocksOf pairBlocks numberedArgs subterms CAt DAt partsBehind partsOfD partsOfC someIdentical allParts someParts clausesOfC nodeBlock ruleBlocks rulesBlocks blocks baseBehind «V» clauseFile literalBytes clauseBytes countsText header fileBlocks fileBytes numberedBlock blockOf block printed clauseProgram signed literalOf item blank ahead allClosed clausesOf counted behindHeader fromWords readDimacs
 computing = tt

@@ -25,9 +25,11 @@ unfoldable pub clauseBytes : Clause → List ℕ
 clauseBytes clause = flatMap literalBytes clause ++ ascii "0\n"
 
 -- "Block 0: `p cnf V M` and a newline, V the base after the last rule, M the number of clauses that follow."
+unfoldable pub countsText : (variables clauses : ℕ) → List ℕ
+countsText variables clauses = decimal variables ++ ascii " " ++ decimal clauses ++ ascii "\n"
+
 unfoldable pub header : Book → List ℕ
-header book =
-    ascii "p cnf " ++ decimal («V» book) ++ ascii " " ++ decimal (length (flatten (blocks book))) ++ ascii "\n"
+header book = ascii "p cnf " ++ countsText («V» book) (length (flatten (blocks book)))
 
 -- "The file is a sequence of numbered blocks."
 unfoldable pub fileBlocks : Book → List (List ℕ)

@@ -4,11 +4,5 @@ pub mod Blocks
 pub mod File
 pub mod Item
 pub mod Dimacs
-pub mod Meaning
 pub mod Pairs
-pub mod Nodes
-pub mod Rules
-pub mod Read
-pub mod Places
-pub mod Written
 pub mod Computing

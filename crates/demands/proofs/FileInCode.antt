@@ -12,7 +12,7 @@ use Rattle.reply.proofs.Given.{bind-given, unless-given, given-not-refused}
 use Rattle.book.specs.Book.{Book}
 use Rattle.book.specs.Reading.{readBook}
 use Rattle.clauses.specs.File.{fileBlocks, fileBytes, numberedBlock, blockOf, block, printed, clauseProgram}
-use Rattle.clauses.proofs.BlockCall.{block-of-read, its-text}
+use Rattle.clauses.proofs.BlockReply.{block-of-read, its-text}
 use Rattle.clauses.proofs.Elements.{element-there, element-within, element-is}
 use Rattle.clauses.proofs.WholeFile.{no-block-exactly}
 use Rattle.demands.specs.EntryPoints.{Bytes, answer, bufferAfter, aBlock}

@@ -10,14 +10,14 @@ use lib.ListN.{length}
 use Rattle.reply.specs.Reply.{Reply}
 use Rattle.book.specs.Meaning.{meaning}
 use Rattle.order.specs.Meaning.{ranksMeaning}
-use Rattle.clauses.specs.Written.{writtenMeaning}
+use Rattle.blocks.specs.Written.{writtenMeaning}
 use Rattle.answer.specs.Answered.{answeredMeaning}
 use Rattle.rewriting.specs.Asked.{argumentMeaning}
 use Rattle.rewriting.specs.RunMeaning.{runMeaning}
 use Rattle.book.proofs.read_book.Kinds as read-book-kinds
 use Rattle.book.proofs.read_book.Reads as read-book
-use Rattle.clauses.proofs.write_block.Kinds as write-block-kinds
-use Rattle.clauses.proofs.write_block.Reads as write-block
+use Rattle.blocks.proofs.write_block.Kinds as write-block-kinds
+use Rattle.blocks.proofs.write_block.Reads as write-block
 use Rattle.order.proofs.check_ranks.Kinds as check-ranks-kinds
 use Rattle.order.proofs.check_ranks.Reads as check-ranks
 use Rattle.answer.proofs.ranks_from_answer.Kinds as ranks-from-answer-kinds

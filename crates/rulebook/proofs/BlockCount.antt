@@ -13,10 +13,12 @@ use Rattle.book.specs.declared.Book.{Book as Places}
 use Rattle.clauses.specs.Numbering.{baseAfter, firstBase}
 use Rattle.clauses.specs.Blocks.{pairBlocks, ruleBlocks, rulesBlocks, blocks}
 use Rattle.clauses.specs.File.{clauseBytes, fileBlocks}
-use Rattle.clauses.specs.Read.{ReadFrom, WasRead, settingAt}
+use Rattle.book.specs.WasRead.{ReadFrom, WasRead}
+use Rattle.blocks.specs.RulePlaces.{placedRule}
 use Rattle.clauses.proofs.BlockNumbers.{pairs-count, rule-blocks-count}
-use Rattle.clauses.proofs.PairNumbers.{product}
-use Rattle.clauses.proofs.RulesWalk.{read-symbols, read-there, rule-here}
+use Rattle.pair_blocks.proofs.PairNumbers.{product}
+use Rattle.book.proofs.WasRead.{read-stands}
+use Rattle.blocks.proofs.RulesWalk.{read-symbols, rule-here}
 
 -- The blocks of these rules: "for each rule a block (C of 0,0), and a block for each (u,v)".
 unfoldable pub blocksOf : List Rule → ℕ
@@ -60,7 +62,7 @@ count-starts b count is bytes read =
 pub count-goes-on :
     (b : Places) (count i : ℕ) → CountedTo b count i → i < b .rules → (count′ : ℕ) →
     count′ ≡ count + (1 + getD (b .«left_nodes») i 0 * getD (b .«right_nodes») i 0) → CountedTo b count′ (i + 1)
-unfolding blocksOf settingAt
+unfolding blocksOf placedRule
 count-goes-on b count i known h count′ is bytes read =
     let here = rule-here read 0 i (omega arith) h in
     let next = ap blocksOf (here .next) in
@@ -71,12 +73,12 @@ pub count-ends :
     (b : Places) (count i : ℕ) → CountedTo b count i → b .rules ≤ i → (bytes : List ℕ) → ReadFrom bytes b → count ≡ length (fileBlocks (bookAt bytes b))
 unfolding blocksOf
 count-ends b count i known h bytes read =
-    let none = ap blocksOf (drop-of-length-le (bookAt bytes b .rules) {i = i} (omega (arith, read-there read .ruleCount))) in
+    let none = ap blocksOf (drop-of-length-le (bookAt bytes b .rules) {i = i} (omega (arith, read-stands read .ruleCount))) in
     omega (arith, known bytes read)
 
 -- A rule has at most 101 blocks.
 pub rule-few : {b : Places} → WasRead b → (i : ℕ) → i < b .rules → getD (b .«left_nodes») i 0 * getD (b .«right_nodes») i 0 ≤ 100
-unfolding settingAt
+unfolding placedRule
 rule-few was i h =
     let here = rule-here (was .read) 0 i (omega arith) h in
     product _ _ 10 10 (here .stands .left .small) (here .stands .right .small)

@@ -10,8 +10,9 @@ use Rattle.book.specs.Meaning.{bookAt, meaning}
 use Rattle.book.specs.declared.Book.{Book as Places}
 use Rattle.book.specs.declared.ReadBook.{ReadBook}
 use Rattle.clauses.specs.File.{fileBlocks}
-use Rattle.clauses.specs.Read.{ReadFrom}
-use Rattle.clauses.proofs.RulesWalk.{read-given, read-symbols, read-there}
+use Rattle.book.specs.WasRead.{ReadFrom}
+use Rattle.book.proofs.WasRead.{read-given, read-stands}
+use Rattle.blocks.proofs.RulesWalk.{read-symbols}
 use Rattle.rewriting.specs.Asked.{unreadable}
 use Rattle.rewriting.proofs.Questions.{Refuses, book-refused}
 use Rattle.rulebook.specs.Replies.{verdictReply, bookReply}
@@ -37,6 +38,6 @@ pub book-was-read :
     record { refusal = 0; place = 0; symbols = b .symbols; rules = b .rules; blocks = blocks } ≡ bookReply (readBook bytes)
 book-was-read {bytes} {b} read blocks count =
     let symbols = read-symbols read in
-    let rules = read-there read .ruleCount in
+    let rules = read-stands read .ruleCount in
     let same : record { refusal = 0; place = 0; symbols = b .symbols; rules = b .rules; blocks = blocks } ≡ bookReply (given (bookAt bytes b)) = cc in
     same ∙ ap bookReply (sym (read-given read))

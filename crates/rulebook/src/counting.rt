@@ -6,7 +6,7 @@ ghost use mathlib.Core.Path.{_≡_};
 ghost use lib.ListN.{length};
 ghost use Rattle.book.specs.Meaning.{bookAt};
 ghost use Rattle.clauses.specs.File.{fileBlocks};
-ghost use Rattle.clauses.specs.Read.{ReadFrom, WasRead};
+ghost use Rattle.book.specs.WasRead.{ReadFrom, WasRead};
 
 // "Blocks are numbered from 0": the header, "a block for each ordered pair f ≠ g", and for each rule a block and "a block for each (u,v)".
 pub fn count_blocks(places: Book) -> usize

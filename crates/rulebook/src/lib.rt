@@ -62,7 +62,7 @@ pub extern "C" fn rulebook_write_block(book: &[u8], number: u64, out: &mut [u8])
     ensures replies { λ r. ⌜ r ≡ writtenReply (lengthOf (block (now (book .entry)) number (length (now (out .entry))))) ⌝ }
     ensures lays { λ _. ⌜ now (out .exit) ≡ laid (block (now (book .entry)) number (length (now (out .entry)))) (now (out .entry)) ⌝ }
 {
-    of_block(clauses::write_block(book, number, out))
+    of_block(blocks::write_block(book, number, out))
 }
 
 // Reads a solver's answer and writes its ranks, if they make every rule decrease.

@@ -1,7 +1,7 @@
 // Replies as C reads them: refusal 0 if the input was taken, else document 01's number and place, and then every other field is 0.
 use answer::Answered;
+use blocks::Written;
 use book::BookVerdict;
-use clauses::Written;
 use order::RanksVerdict;
 use rewriting::asking::ArgumentReply;
 use rewriting::running::Outcome;
@@ -9,7 +9,7 @@ use rewriting::running::RunReply;
 ghost use mathlib.Core.Path.{_≡_};
 ghost use Rattle.reply.specs.Reply.{given, refused, _at_};
 ghost use Rattle.order.specs.Meaning.{ranksMeaning};
-ghost use Rattle.clauses.specs.Written.{writtenMeaning};
+ghost use Rattle.blocks.specs.Written.{writtenMeaning};
 ghost use Rattle.answer.specs.Answered.{answeredMeaning};
 ghost use Rattle.rewriting.specs.Asked.{unreadable, argumentMeaning};
 ghost use Rattle.rewriting.specs.RunMeaning.{runMeaning};

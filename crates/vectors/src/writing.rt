@@ -2,7 +2,7 @@
 use crate::lent;
 use crate::show;
 use crate::words;
-use clauses::Written;
+use blocks::Written;
 
 // What came of a block call, and how many bytes it wrote.
 fn show_written(written: Written) -> usize {
@@ -19,7 +19,7 @@ fn show_written(written: Written) -> usize {
 
 fn block_into(book: &[u8], number: u64, wanted: u64, buffer: &mut [u8]) {
     let room = words::within(wanted, buffer);
-    let written = clauses::write_block(book, number, &mut buffer[..room]);
+    let written = blocks::write_block(book, number, &mut buffer[..room]);
     let length = show_written(written);
     lent::show_lines_after(buffer, length);
 }

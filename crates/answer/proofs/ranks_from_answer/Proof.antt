@@ -3,7 +3,7 @@
 use Rattle.book.specs.Meaning.{bookAt, meaning}
 use Rattle.order.proofs.Standing.{read-given, read-book-stands}
 use Rattle.answer.proofs.Afterwards.{unreadable, of-read-book}
-use Rattle.clauses.proofs.ReadBooks.{not-readable, read-from, was-read}
+use Rattle.book.proofs.WasRead.{read-from, was-read}
 use borrow.Author.Needs.{needs}
 use Rattle.answer.proofs.ranks_from_answer.Statement.{statement}
 use Rattle.answer.proofs.ranks_from_answer.Tie as tie

@@ -15,7 +15,7 @@ use Rattle.clauses.specs.File.{fileBlocks, blockOf}
 use Rattle.clauses.proofs.Bounds.{block-at-most}
 use Rattle.clauses.proofs.Elements.{element-member, element-within}
 use Rattle.text.proofs.Laying.{lays-length}
-use Rattle.clauses.proofs.RulesWalk.{read-limits}
+use Rattle.book.proofs.WasRead.{read-limits}
 use Rattle.clause_file.proofs.Fitting.{Reached, nothing-yet, one-more, no-more, reached-within}
 use Rattle.clause_file.proofs.Answers.{Refuses, refuses, nothing-laid, TextAt, text-at, none-fits, few-blocks}
 use Rattle.clause_file.proofs.fill.Statement.{statement}

@@ -1,7 +1,7 @@
 -- `clause_file::print_for` keeps to what it calls: the blocks are those of a book that was read from these bytes. Assumes nothing.
 use native.Mathlib.Omega.{arith}
 use borrow.Author.Needs.{needs}
-use Rattle.clauses.proofs.ReadBooks.{read-from}
+use Rattle.book.proofs.WasRead.{read-from}
 use Rattle.clause_file.proofs.print_for.Statement.{statement}
 use Rattle.clause_file.proofs.print_for.Tie as tie
 

@@ -2,7 +2,7 @@
 -- book that stands at its places. Assumes nothing.
 use mathlib.Core.Path.{_∙_}
 use borrow.Author.Needs.{needs}
-use Rattle.clauses.proofs.ReadBooks.{read-from, was-read}
+use Rattle.book.proofs.WasRead.{read-from, was-read}
 use Rattle.rulebook.proofs.BookTold.{book-not-read, book-was-read}
 use Rattle.rulebook.proofs.rulebook_read_book.Statement.{statement}
 use Rattle.rulebook.proofs.rulebook_read_book.Tie as tie

@@ -5,7 +5,7 @@ use native.Mathlib.Nat.{mul-le-mul}
 use native.Mathlib.Omega.{arith}
 use lib.ListN.{getD}
 use borrow.Author.Needs.{needs}
-use Rattle.clauses.proofs.RulesWalk.{read-few-symbols, read-few-rules}
+use Rattle.blocks.proofs.RulesWalk.{read-few-symbols, read-few-rules}
 use Rattle.rulebook.proofs.BlockCount.{CountedTo, count-starts, count-goes-on, count-ends, rule-few, squares}
 use Rattle.rulebook.proofs.counting.count_blocks.Statement.{statement}
 use Rattle.rulebook.proofs.counting.count_blocks.Tie as tie

@@ -1,8 +1,8 @@
 -- `replies::of_block` meets its contract, case by case. Assumes nothing.
 use mathlib.Core.Path.{sym, ap, _∙_}
 use borrow.Author.Needs.{needs}
-use Rattle.clauses.specs.Written.{writtenMeaning}
-use Rattle.clauses.specs.declared.Written.{Written}
+use Rattle.blocks.specs.Written.{writtenMeaning}
+use Rattle.blocks.specs.declared.Written.{Written}
 use Rattle.rulebook.specs.Replies.{writtenReply}
 use Rattle.rulebook.specs.declared.replies.Verdict.{Verdict}
 use Rattle.rulebook.specs.declared.replies.WrittenReply.{WrittenReply}

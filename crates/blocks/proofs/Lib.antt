@@ -1,0 +1,6 @@
+pub mod RulesWalk
+pub mod RulesBlocks
+pub mod BlockCount
+pub mod FileBlocks
+pub mod BlockCall
+pub mod Settled

@@ -1,0 +1,3 @@
+pub mod RulePlaces
+pub mod Found
+pub mod Written

@@ -1,0 +1,44 @@
+-- `literals::write_clause_end` meets its contract. Assumes nothing.
+use borrow.Author.Needs.{needs}
+use Rattle.text.specs.Text.{ascii}
+use Rattle.text.proofs.Laying.{lays-then}
+use Rattle.clause_bytes.proofs.literals.write_clause_end.Statement.{statement}
+use Rattle.clause_bytes.proofs.literals.write_clause_end.Tie as tie
+
+write-byte-requires : tie.Need-write-byte-requires
+write-byte-requires c κs = search needs
+
+sub-write-byte : tie.Need-sub-write-byte
+sub-write-byte c = search needs
+
+part-write-byte-start : tie.Need-part-write-byte-start
+part-write-byte-start c = search needs
+
+part-write-byte-end : tie.Need-part-write-byte-end
+part-write-byte-end c = search needs
+
+write-byte-requires-2 : tie.Need-write-byte-requires-2
+write-byte-requires-2 c κs = search needs
+
+add-result : tie.Need-add-result
+add-result c = search needs
+
+same-length : tie.Need-same-length
+same-length c = search needs
+
+returns : tie.Need-returns
+unfolding ascii
+returns c = lays-then (c .before .before .before .before .before .before .write-byte .ensures) (c .before .before .write-byte2 .ensures)
+
+pub write-clause-end-spec : {M : Type 1} → statement M
+write-clause-end-spec =
+    tie.close
+    (tie.spec
+    write-byte-requires
+    sub-write-byte
+    part-write-byte-start
+    part-write-byte-end
+    write-byte-requires-2
+    add-result
+    same-length
+    returns)

@@ -1,0 +1,7 @@
+pub mod Walk
+pub mod Identical
+pub mod Behind
+pub mod PartsAt
+pub mod NodesBlock
+pub mod SubtermsAt
+pub mod RuleNumbers
