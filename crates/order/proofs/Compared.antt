@@ -11,7 +11,7 @@ use Rattle.term.specs.Term.{Term, Args, app, nil, cons, size, sizes, count}
 use Rattle.term.specs.At.{At, ArgsAt, Standing, variableAt, symbolAt}
 use Rattle.term.proofs.At.{at-unique, args-unique, at-end, at-within, args-count, args-first, args-none, sizes-count}
 use Rattle.book.specs.Standing.{SideStands}
-use Rattle.order.specs.Test.{everyArg, someArg, decreaseAt, reaches, exceeds}
+use Rattle.order.specs.Test.{everyArg, decreaseAt, case3Holds, exceeds}
 use Rattle.order.specs.Compared.{rootOf, SideAt, ArgumentsAt, ExceedsAt, SomeReachesAt, ExceedsEveryAt, DecreasesAt}
 use Rattle.order.specs.declared.compare.Root.the-variants.{Symbol}
 
@@ -118,7 +118,7 @@ module _ {bytes arities : List ℕ} where
 
     pub some-for-all :
         {many ss m t n : ℕ} (a : ArgumentsAt bytes arities many ss m) (b : SideAt bytes arities t n) →
-        r ≡ someArg (reaches (exceeds ranks) (b .term)) (a .terms) → SomeReachesAt bytes arities ranks many ss t r
+        r ≡ case3Holds (exceeds ranks) (a .terms) (b .term) → SomeReachesAt bytes arities ranks many ss t r
     some-for-all a b e x y d f hx hy = let p = args-unique (a .stand) hx .0 in let q = at-unique (b .stands) hy .0 in cc
 
     pub every-for-all :

@@ -39,27 +39,27 @@ module _ (ranks : List ℕ) where
       (never (exceeds ranks a a) (λ h. exceeds-irreflexive ranks a (exceeds-decides ranks a a .0 h)))
 
   -- (3), argument by argument.
-  pub some-none : {ss : Args} → ss ≡ nil → (t : Term) → someArg (reaches (exceeds ranks) t) ss ≡ false
-  unfolding someArg
-  some-none p t = rw (p, someArg)
+  pub some-none : {ss : Args} → ss ≡ nil → (t : Term) → case3Holds (exceeds ranks) ss t ≡ false
+  unfolding case3Holds someArg
+  some-none p t = rw (p, case3Holds, someArg)
 
   module _ {ss : Args} {a : Term} {rest : Args} (parts : ss ≡ cons a rest) (t : Term) where
-    pub some-identical : same a t ≡ true → someArg (reaches (exceeds ranks) t) ss ≡ true
-    unfolding someArg reaches
-    some-identical e = rw (parts, someArg, e)
+    pub some-identical : same a t ≡ true → case3Holds (exceeds ranks) ss t ≡ true
+    unfolding case3Holds someArg reaches
+    some-identical e = rw (parts, case3Holds, someArg, e)
 
-    pub some-exceeds : exceeds ranks a t ≡ true → someArg (reaches (exceeds ranks) t) ss ≡ true
-    unfolding someArg reaches
-    some-exceeds h = rw (parts, someArg, h) (either (same a t) (someArg (reaches (exceeds ranks) t) rest))
+    pub some-exceeds : exceeds ranks a t ≡ true → case3Holds (exceeds ranks) ss t ≡ true
+    unfolding case3Holds someArg reaches
+    some-exceeds h = rw (parts, case3Holds, someArg, h) (either (same a t) (case3Holds (exceeds ranks) rest t))
       where
         either : (x y : Bool) → x || true || y ≡ true
         either true y = refl
         either false y = refl
 
     pub some-later :
-        same a t ≡ false → exceeds ranks a t ≡ false → someArg (reaches (exceeds ranks) t) ss ≡ someArg (reaches (exceeds ranks) t) rest
-    unfolding someArg reaches
-    some-later e h = rw (parts, someArg, e, h)
+        same a t ≡ false → exceeds ranks a t ≡ false → case3Holds (exceeds ranks) ss t ≡ case3Holds (exceeds ranks) rest t
+    unfolding case3Holds someArg reaches
+    some-later e h = rw (parts, case3Holds, someArg, e, h)
 
   -- s exceeds every argument.
   pub every-none : {ts : Args} → ts ≡ nil → (s : Term) → everyArg (exceeds ranks s) ts ≡ true
@@ -112,22 +112,22 @@ module _ (ranks : List ℕ) where
     at-left : (t : Term) → exceeds ranks s t ≡ atRoot (above ranks) (exceeds ranks) f ss t
     at-left t = ap (λ (u : Term). exceeds ranks u t) left ∙ exceeds-root ranks f ss t
 
-    pub root-reaches : (t : Term) → someArg (reaches (exceeds ranks) t) ss ≡ true → exceeds ranks s t ≡ true
+    pub root-reaches : (t : Term) → case3Holds (exceeds ranks) ss t ≡ true → exceeds ranks s t ≡ true
     unfolding atRoot case3Holds
     root-reaches t e =
         at-left t ∙ rw e (or-true (case1Holds (exceeds ranks) f ss t || case2Holds (above ranks) (exceeds ranks) f ss t))
 
-    pub root-variable : (t : Term) → rootOf t ≡ Variable → someArg (reaches (exceeds ranks) t) ss ≡ false → exceeds ranks s t ≡ false
+    pub root-variable : (t : Term) → rootOf t ≡ Variable → case3Holds (exceeds ranks) ss t ≡ false → exceeds ranks s t ≡ false
     unfolding atRoot case1Holds case2Holds case3Holds
     root-variable (var y) v e = at-left (var y) ∙ e
     root-variable (app g ts) v e = let z : _≡_ {A = ℕ} 0 1 = cc in absurd (omega arith)
 
-    module _ {t : Term} {g : ℕ} {ts : Args} (right : t ≡ app g ts) (e : someArg (reaches (exceeds ranks) t) ss ≡ false) where
+    module _ {t : Term} {g : ℕ} {ts : Args} (right : t ≡ app g ts) (e : case3Holds (exceeds ranks) ss t ≡ false) where
       two-roots :
           exceeds ranks s t ≡ (eqb f g && decreaseAt (exceeds ranks) s ss ts || above ranks f g && everyArg (exceeds ranks s) ts)
       unfolding atRoot case1Holds case2Holds case3Holds
       two-roots =
-          let none : someArg (reaches (exceeds ranks) (app g ts)) ss ≡ false = rw right at e in
+          let none : case3Holds (exceeds ranks) ss (app g ts) ≡ false = rw right at e in
           at-left t
           ∙ rw (right, left, atRoot, none)
           (or-false (eqb f g && decreaseAt (exceeds ranks) (app f ss) ss ts || above ranks f g && everyArg (exceeds ranks (app f ss)) ts))

@@ -7,7 +7,7 @@ use Rattle.term.specs.Term.{Term, Args, var, app, size, sizes, count, same}
 use Rattle.term.specs.At.{At, ArgsAt}
 use Rattle.order.specs.declared.compare.Root.{Root}
 use Rattle.order.specs.declared.compare.Root.the-variants.{Variable, Symbol}
-use Rattle.order.specs.Test.{everyArg, someArg, decreaseAt, reaches, exceeds}
+use Rattle.order.specs.Test.{everyArg, decreaseAt, case3Holds, exceeds}
 
 -- The root of a term, a variable or a symbol with so many arguments, and of whatever term stands at a place.
 abbrev pub rootOf : Term → Root
@@ -35,13 +35,18 @@ pub record ArgumentsAt (bytes arities : List ℕ) (many u nodes : ℕ) : Type 0 
   pub stand : ArgsAt bytes arities many u terms behind
   pub within : sizes terms ≤ nodes
 
+-- s, and so many of its arguments and of another term's, side by side.
+abbrev pub ListsAt : (bytes arities : List ℕ) (s s-nodes many ss ts ts-nodes : ℕ) → Type 0
+ListsAt bytes arities s s-nodes many ss ts ts-nodes =
+    SideAt bytes arities s s-nodes × ArgumentsAt bytes arities many ss s-nodes × ArgumentsAt bytes arities many ts ts-nodes
+
 -- The answer is the test's, whatever terms stand at the places.
 abbrev pub ExceedsAt : (bytes arities ranks : List ℕ) (s t : ℕ) → Bool → Type 0
 ExceedsAt bytes arities ranks s t r = (a b : Term) (d e : ℕ) → At bytes arities s a d → At bytes arities t b e → r ≡ exceeds ranks a b
 
 abbrev pub SomeReachesAt : (bytes arities ranks : List ℕ) (many ss t : ℕ) → Bool → Type 0
 SomeReachesAt bytes arities ranks many ss t r =
-    (a : Args) (b : Term) (d e : ℕ) → ArgsAt bytes arities many ss a d → At bytes arities t b e → r ≡ someArg (reaches (exceeds ranks) b) a
+    (a : Args) (b : Term) (d e : ℕ) → ArgsAt bytes arities many ss a d → At bytes arities t b e → r ≡ case3Holds (exceeds ranks) a b
 
 abbrev pub ExceedsEveryAt : (bytes arities ranks : List ℕ) (s many ts : ℕ) → Bool → Type 0
 ExceedsEveryAt bytes arities ranks s many ts r =

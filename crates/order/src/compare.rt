@@ -5,7 +5,7 @@ ghost use Prim.Native.Nat.{ℕ, _<_};
 ghost use Rattle.term.specs.Term.{Term, size};
 ghost use Rattle.term.specs.At.{At, Standing};
 ghost use Rattle.order.specs.Precedence.{above};
-ghost use Rattle.order.specs.Compared.{RootAt, SameAt, SideAt, ArgumentsAt, ExceedsAt, SomeReachesAt, ExceedsEveryAt, DecreasesAt};
+ghost use Rattle.order.specs.Compared.{RootAt, SameAt, SideAt, ArgumentsAt, ListsAt, ExceedsAt, SomeReachesAt, ExceedsEveryAt, DecreasesAt};
 
 // What a comparison knows of each symbol: its arity and its rank.
 pub(crate) struct Symbols {
@@ -157,7 +157,7 @@ fn decreases_at(
     ts: usize,
     ts_nodes: usize,
 ) -> bool
-    requires { ⌜ SideAt (now bytes) (symbols .arities) s «s_nodes» × ArgumentsAt (now bytes) (symbols .arities) many ss «s_nodes» × ArgumentsAt (now bytes) (symbols .arities) many ts «ts_nodes» ⌝ }
+    requires { ⌜ ListsAt (now bytes) (symbols .arities) s «s_nodes» many ss ts «ts_nodes» ⌝ }
     ensures { λ r. ⌜ DecreasesAt (now (bytes .entry)) (symbols .arities) (symbols .ranks) s many ss ts r ⌝ }
 {
     if many == 0 {

@@ -7,7 +7,7 @@ use lib.ListN.{length, length-map, getD}
 use borrow.Author.Needs.{needs}
 use borrow.Fn.Kinds.{In, Out}
 use Rattle.term.specs.Term.{Args}
-use Rattle.order.specs.Test.{someArg, reaches, exceeds}
+use Rattle.order.specs.Test.{case3Holds, exceeds}
 use Rattle.order.proofs.Compared.{SymbolSide, standing, symbol-side, wider, as-many, exceeds-for-all}
 use Rattle.order.proofs.Stepwise.{variable-exceeds-nothing, root-reaches, root-variable, root-above, root-equal, root-fails}
 use Rattle.order.proofs.compare.exceeds.Reads as reads
@@ -31,7 +31,7 @@ module _ (t : ℕ) where
 
   -- Whether some argument of s is identical to t or exceeds it.
   abbrev Reached : (start : Of lts.Start t) (ss : Args) (r : Bool) → Type 0
-  Reached start ss r = r ≡ someArg (reaches (exceeds (start .args .symbols .ranks)) (start .pre .1 .1 .term)) ss
+  Reached start ss r = r ≡ case3Holds (exceeds (start .args .symbols .ranks)) ss (start .pre .1 .1 .term)
 
   -- Where the root of s is known: s is f(s1..sm).
   abbrev start-of : Of lts.After-known-told t → Of lts.Start t
