@@ -17,7 +17,7 @@ unfolding ranksMeaning numbered
 returns c =
     let start = c .before .before .before in
     sym (wrong-count (bookAt (start .args .bytes .now) (start .args .book)) (start .args .ranks .now)
-    (λ e. c .if1 .taken (e ∙ sym (read-stands (start .pre) .symbolCount))))
+    (λ e. omega (arith, c .if1 .taken, e, read-stands (start .pre) .symbolCount)))
 
 padded-requires : tie.Need-padded-requires
 padded-requires c κs = omega (arith, read-stands (c .before .before .before .pre) .fewSymbols)
@@ -31,7 +31,7 @@ returns-2 c =
     let book = bookAt (start .args .bytes .now) (start .args .book) in
     c .first-not-decreasing .ensures
     ∙ all-decrease-same (c .before .padded .result) (start .args .ranks .now) (c .before .padded .ensures) 0 (book .rules)
-    ∙ sym (right-count book (start .args .ranks .now) (c .before .before .if1 .left ∙ read-stands (start .pre) .symbolCount))
+    ∙ sym (right-count book (start .args .ranks .now) (omega (arith, c .before .before .if1 .left, read-stands (start .pre) .symbolCount)))
 
 pub ranks-clear-spec : {M : Type 1} → statement M
 ranks-clear-spec = tie.close (tie.spec returns padded-requires first-not-decreasing-requires returns-2)
