@@ -23,7 +23,8 @@ ghost use Rattle.blocks.specs.Written.{writtenMeaning};
 // The block at a place that was found.
 fn write_place(bytes: &[u8], book: Book, place: Place, out: &mut [u8]) -> usize
     requires { ⌜ ReadFrom (now bytes) book × SomeNumber (now bytes) book place ⌝ }
-    ensures { λ r. ⌜ ((number : ℕ) (text : List ℕ) → FindsBlock (now (bytes .entry)) book number place → getElem? (fileBlocks (bookAt (now (bytes .entry)) book)) number ≡ some text → Lays text (now (out .entry)) r (now (out .exit))) ⌝ }
+    ensures { λ r. ⌜ ((number : ℕ) (text : List ℕ) → FindsBlock (now (bytes .entry)) book number place →
+        getElem? (fileBlocks (bookAt (now (bytes .entry)) book)) number ≡ some text → Lays text (now (out .entry)) r (now (out .exit))) ⌝ }
 {
     match place {
         Place::Header => write_header(bytes, book, out),

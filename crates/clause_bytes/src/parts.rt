@@ -4,8 +4,8 @@ use crate::literals::write_literal;
 use crate::writing::Literal;
 use crate::writing::write_clause_of_one;
 use crate::writing::write_clause_of_two;
-ghost use Prim.Native.Nat.{_+_, _≤_, _<_};
-ghost use mathlib.Core.List.{[], _∷_, _++_, flatMap, map};
+ghost use Prim.Native.Nat.{_≤_};
+ghost use mathlib.Core.List.{flatMap, map};
 ghost use mathlib.Core.Path.{_≡_};
 ghost use Rattle.clauses.specs.Blocks.{allParts, someParts};
 ghost use Rattle.clauses.specs.File.{clauseBytes};
@@ -16,26 +16,6 @@ ghost use Rattle.clause_bytes.specs.Meaning.{meant, partsIn, against, pa
 pub struct Parts {
     pub many: usize,
     pub of: [usize; 8],
-}
-
-pub fn no_parts() -> Parts
-    ensures { λ r. ⌜ (r .many ≡ 0) × (partsIn r ≡ []) ⌝ }
-{
-    Parts {
-        many: 0,
-        of: [0usize; 8],
-    }
-}
-
-// One part more.
-pub fn with_part(parts: Parts, part: usize) -> Parts
-    requires { ⌜ parts .many < 8 ⌝ }
-    ensures { λ r. ⌜ (r .many ≡ parts .many + 1) × (partsIn r ≡ partsIn parts ++ (part ∷ [])) ⌝ }
-{
-    let many = parts.many;
-    let mut of = parts.of;
-    of[many] = part;
-    Parts { many: many + 1, of }
 }
 
 // A part as it stands in a clause with the whole: with the other sign.

@@ -1,4 +1,5 @@
 // The blocks of a rule: (C of 0,0), and one for each node of its left side with each of its right.
+mod gathering;
 mod nodes;
 pub mod rules;
 

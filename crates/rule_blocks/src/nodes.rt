@@ -1,8 +1,8 @@
 // The block of two nodes, one of a rule's left side and one of its right: s and t are the subterms there.
 use crate::PlacedRule;
+use crate::gathering::no_parts;
+use crate::gathering::with_part;
 use clause_bytes::parts::Parts;
-use clause_bytes::parts::no_parts;
-use clause_bytes::parts::with_part;
 use clause_bytes::parts::write_all_parts;
 use clause_bytes::parts::write_some_parts;
 use clause_bytes::writing::Literal;
@@ -73,7 +73,8 @@ fn parts_along(
 ) -> Parts
     requires { ⌜ NodesAt (now bytes) arities start node many × (parts .many + many ≤ 8) × (first ≤ 65536) × (step ≤ 65536) ⌝ }
     ensures count { λ r. ⌜ r .many ≡ parts .many + many ⌝ }
-    ensures are { λ r. ⌜ ((ts : Args) (e : ℕ) → ArgsAt (now (bytes .entry)) arities many (start + 2 * node) ts e → partsIn r ≡ partsIn parts ++ map (λ (t : Numbered). first + step * t .node) (numberedArgs node ts)) ⌝ }
+    ensures are { λ r. ⌜ ((ts : Args) (e : ℕ) → ArgsAt (now (bytes .entry)) arities many (start + 2 * node) ts e →
+        partsIn r ≡ partsIn parts ++ map (λ (t : Numbered). first + step * t .node) (numberedArgs node ts)) ⌝ }
 {
     let mut at = node;
     let mut left = many;
@@ -100,7 +101,9 @@ fn parts_behind(
     requires { ⌜ WithinMaximum placed × (u ≤ 10) × (many ≤ 6) ⌝ }
     requires { ⌜ NodesAt (now bytes) arities (placed .left) a many × NodesAt (now bytes) arities (placed .right) b many ⌝ }
     ensures count { λ r. ⌜ r .many ≤ many ⌝ }
-    ensures are { λ r. ⌜ ((ss ts : Args) (d e : ℕ) → ArgsAt (now (bytes .entry)) arities many (placed .left + 2 * a) ss d → ArgsAt (now (bytes .entry)) arities many (placed .right + 2 * b) ts e → partsIn r ≡ partsBehind (settingOf placed) u (numberedArgs a ss) (numberedArgs b ts)) ⌝ }
+    ensures are { λ r. ⌜ ((ss ts : Args) (d e : ℕ) → ArgsAt (now (bytes .entry)) arities many (placed .left + 2 * a) ss d →
+        ArgsAt (now (bytes .entry)) arities many (placed .right + 2 * b) ts e →
+        partsIn r ≡ partsBehind (settingOf placed) u (numberedArgs a ss) (numberedArgs b ts)) ⌝ }
 {
     if many == 0 {
         return no_parts();
@@ -128,7 +131,8 @@ fn one_identical(
     t: usize,
 ) -> bool
     requires { ⌜ NodesAt (now bytes) arities start a many × Standing (now bytes) arities t ⌝ }
-    ensures { λ r. ⌜ ((ss : Args) (t′ : Term) (d e : ℕ) → ArgsAt (now (bytes .entry)) arities many (start + 2 * a) ss d → At (now (bytes .entry)) arities t t′ e → r ≡ someArg (λ s. same s t′) ss) ⌝ }
+    ensures { λ r. ⌜ ((ss : Args) (t′ : Term) (d e : ℕ) → ArgsAt (now (bytes .entry)) arities many (start + 2 * a) ss d →
+        At (now (bytes .entry)) arities t t′ e → r ≡ someArg (λ s. same s t′) ss) ⌝ }
 {
     if many == 0 {
         return false;
@@ -154,7 +158,9 @@ fn parts_apart(
     requires { ⌜ WithinMaximum placed × (u ≤ 10) × (many ≤ 6) × Pair (placed .symbols) f g ⌝ }
     requires { ⌜ NodesAt (now bytes) arities (placed .right) (v + 1) many ⌝ }
     ensures count { λ r. ⌜ r .many ≤ 7 ⌝ }
-    ensures are { λ r. ⌜ ((ts : Args) (e : ℕ) → ArgsAt (now (bytes .entry)) arities many (placed .right + 2 * (v + 1)) ts e → partsIn r ≡ G (placed .symbols) (placed .bits) f g (placed .bits) ∷ map (λ (t : Numbered). CAt (settingOf placed) u (t .node)) (numberedArgs (v + 1) ts)) ⌝ }
+    ensures are { λ r. ⌜ ((ts : Args) (e : ℕ) → ArgsAt (now (bytes .entry)) arities many (placed .right + 2 * (v + 1)) ts e →
+        partsIn r ≡ G (placed .symbols) (placed .bits) f g (placed .bits)
+        ∷ map (λ (t : Numbered). CAt (settingOf placed) u (t .node)) (numberedArgs (v + 1) ts)) ⌝ }
 {
     let larger = larger_number(placed.symbols, placed.bits, f, g, placed.bits);
     let parts = with_part(no_parts(), larger);
@@ -167,7 +173,8 @@ fn parts_apart(
 fn parts_of_d(bytes: &[u8], arities: [u8; 16], placed: PlacedRule, u: usize, v: usize) -> Parts
     requires { ⌜ Nodes (now bytes) arities placed u v ⌝ }
     ensures count { λ r. ⌜ r .many ≤ 7 ⌝ }
-    ensures are { λ r. ⌜ ((s t : Term) (d e : ℕ) → At (now (bytes .entry)) arities (placed .left + 2 * u) s d → At (now (bytes .entry)) arities (placed .right + 2 * v) t e → partsIn r ≡ partsOfD (settingOf placed) u v s t) ⌝ }
+    ensures are { λ r. ⌜ ((s t : Term) (d e : ℕ) → At (now (bytes .entry)) arities (placed .left + 2 * u) s d →
+        At (now (bytes .entry)) arities (placed .right + 2 * v) t e → partsIn r ≡ partsOfD (settingOf placed) u v s t) ⌝ }
 {
     let left = placed.left;
     let right = placed.right;
@@ -210,7 +217,8 @@ fn parts_of_c(bytes: &[u8], arities: [u8; 16], placed: PlacedRule, u: usize, v: 
 // "some si is identical to t"
 fn some_identical(bytes: &[u8], arities: [u8; 16], placed: PlacedRule, u: usize, v: usize) -> bool
     requires { ⌜ Nodes (now bytes) arities placed u v ⌝ }
-    ensures { λ r. ⌜ ((s t : Term) (d e : ℕ) → At (now (bytes .entry)) arities (placed .left + 2 * u) s d → At (now (bytes .entry)) arities (placed .right + 2 * v) t e → r ≡ someIdentical s t) ⌝ }
+    ensures { λ r. ⌜ ((s t : Term) (d e : ℕ) → At (now (bytes .entry)) arities (placed .left + 2 * u) s d →
+        At (now (bytes .entry)) arities (placed .right + 2 * v) t e → r ≡ someIdentical s t) ⌝ }
 {
     let left = placed.left;
     let many = term::arguments_at(bytes, arities, left + 2 * u);
@@ -227,7 +235,9 @@ fn write_c_clauses(
     out: &mut [u8],
 ) -> usize
     requires { ⌜ Nodes (now bytes) arities placed u v ⌝ }
-    ensures { λ r. ⌜ ((s t : Term) (d e : ℕ) → At (now (bytes .entry)) arities (placed .left + 2 * u) s d → At (now (bytes .entry)) arities (placed .right + 2 * v) t e → Lays (flatMap clauseBytes (clausesOfC (settingOf placed) u v s t)) (now (out .entry)) r (now (out .exit))) ⌝ }
+    ensures { λ r. ⌜ ((s t : Term) (d e : ℕ) → At (now (bytes .entry)) arities (placed .left + 2 * u) s d →
+        At (now (bytes .entry)) arities (placed .right + 2 * v) t e →
+        Lays (flatMap clauseBytes (clausesOfC (settingOf placed) u v s t)) (now (out .entry)) r (now (out .exit))) ⌝ }
 {
     let c = c_number(placed, u, v);
     if some_identical(bytes, arities, placed, u, v) {
@@ -247,7 +257,9 @@ pub fn write_node_block(
     out: &mut [u8],
 ) -> usize
     requires { ⌜ Nodes (now bytes) arities placed u v ⌝ }
-    ensures { λ r. ⌜ ((s t : Term) (d e : ℕ) → At (now (bytes .entry)) arities (placed .left + 2 * u) s d → At (now (bytes .entry)) arities (placed .right + 2 * v) t e → Lays (flatMap clauseBytes (nodesBlock (settingOf placed) u v s t)) (now (out .entry)) r (now (out .exit))) ⌝ }
+    ensures { λ r. ⌜ ((s t : Term) (d e : ℕ) → At (now (bytes .entry)) arities (placed .left + 2 * u) s d →
+        At (now (bytes .entry)) arities (placed .right + 2 * v) t e →
+        Lays (flatMap clauseBytes (nodesBlock (settingOf placed) u v s t)) (now (out .entry)) r (now (out .exit))) ⌝ }
 {
     let d = c_number(placed, u, v) + 1;
     let parts = parts_of_d(bytes, arities, placed, u, v);
@@ -265,7 +277,8 @@ pub fn node_clauses(
 ) -> usize
     requires { ⌜ Nodes (now bytes) arities placed u v ⌝ }
     ensures few { λ r. ⌜ r ≤ 16 ⌝ }
-    ensures count { λ r. ⌜ ((s t : Term) (d e : ℕ) → At (now (bytes .entry)) arities (placed .left + 2 * u) s d → At (now (bytes .entry)) arities (placed .right + 2 * v) t e → r ≡ length (nodesBlock (settingOf placed) u v s t)) ⌝ }
+    ensures count { λ r. ⌜ ((s t : Term) (d e : ℕ) → At (now (bytes .entry)) arities (placed .left + 2 * u) s d →
+        At (now (bytes .entry)) arities (placed .right + 2 * v) t e → r ≡ length (nodesBlock (settingOf placed) u v s t)) ⌝ }
 {
     let d = parts_of_d(bytes, arities, placed, u, v);
     if some_identical(bytes, arities, placed, u, v) {

@@ -25,7 +25,8 @@ pub fn write_rule_block(
     out: &mut [u8],
 ) -> usize
     requires { ⌜ SomeRule (now bytes) arities placed × (number ≤ placed .height * placed .width) ⌝ }
-    ensures { λ r. ⌜ ((rule : Rule) → RuleStands (now (bytes .entry)) arities placed rule → Lays (flatMap clauseBytes (getD (ruleBlocks (settingOf placed) rule) number [])) (now (out .entry)) r (now (out .exit))) ⌝ }
+    ensures { λ r. ⌜ ((rule : Rule) → RuleStands (now (bytes .entry)) arities placed rule →
+        Lays (flatMap clauseBytes (getD (ruleBlocks (settingOf placed) rule) number [])) (now (out .entry)) r (now (out .exit))) ⌝ }
 {
     if number == 0 {
         return write_clause_of_one(Literal::Is(c_number(placed, 0, 0)), out);
@@ -40,7 +41,8 @@ pub fn write_rule_block(
 fn rule_block_clauses(bytes: &[u8], arities: [u8; 16], placed: PlacedRule, number: usize) -> usize
     requires { ⌜ SomeRule (now bytes) arities placed × (number ≤ placed .height * placed .width) ⌝ }
     ensures few { λ r. ⌜ r ≤ 16 ⌝ }
-    ensures count { λ r. ⌜ ((rule : Rule) → RuleStands (now (bytes .entry)) arities placed rule → r ≡ length (getD (ruleBlocks (settingOf placed) rule) number [])) ⌝ }
+    ensures count { λ r. ⌜ ((rule : Rule) → RuleStands (now (bytes .entry)) arities placed rule →
+        r ≡ length (getD (ruleBlocks (settingOf placed) rule) number [])) ⌝ }
 {
     if number == 0 {
         return 1;

@@ -53,7 +53,7 @@ write-pair-block-requires c κs =
     let n = start .args .n in
     let f = start .args .p / at .besides .result in
     let pair = pair-of-number n (start .args .p) (at .besides .result) (start .pre .0) (start .pre .1) (at .besides .ensures) in
-    (subst (Pair n f) (sym (c .before .other-symbol .ensures)) pair, bits at)
+    (subst (Pair n f) (sym (c .before .other-symbol .ensures)) pair, omega (arith, bits at))
 
 same-length : tie.Need-same-length
 same-length c = search needs

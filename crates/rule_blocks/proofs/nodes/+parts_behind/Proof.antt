@@ -16,8 +16,8 @@ use Rattle.rule_blocks.proofs.nodes.+parts_behind.Lts-parts_behind as p
 use Rattle.rule_blocks.proofs.nodes.c_number.Reads as c-number-reads
 use Rattle.rule_blocks.proofs.nodes.node_behind.Reads as node-behind-reads
 use Rattle.rule_blocks.proofs.nodes.parts_along.Reads as parts-along-reads
-use Rattle.clause_bytes.proofs.parts.no_parts.Reads as no-parts-reads
-use Rattle.clause_bytes.proofs.parts.with_part.Reads as with-part-reads
+use Rattle.rule_blocks.proofs.gathering.no_parts.Reads as no-parts-reads
+use Rattle.rule_blocks.proofs.gathering.with_part.Reads as with-part-reads
 use Rattle.term.proofs.same_at.Reads as same-at-reads
 use Rattle.rule_blocks.proofs.nodes.+parts_behind.{statement}
 use Rattle.rule_blocks.proofs.nodes.+parts_behind.Tie.{close}

@@ -1,13 +1,13 @@
--- `parts::with_part` meets its contract. Assumes nothing.
+-- `gathering::with_part` meets its contract. Assumes nothing.
 use borrow.Author.Needs.{needs}
 use mathlib.Core.Path.{_≡_, refl, ap, _∙_}
 use native.Mathlib.Numerals.{add-one}
 use native.Mathlib.Omega.{arith}
 use lib.ListN.{length, take, set}
 use lib.Seq.{take-suc-set}
 use Rattle.clause_bytes.specs.Meaning.{partsIn}
-use Rattle.clause_bytes.proofs.parts.with_part.Statement.{statement}
-use Rattle.clause_bytes.proofs.parts.with_part.Tie as tie
+use Rattle.rule_blocks.proofs.gathering.with_part.Statement.{statement}
+use Rattle.rule_blocks.proofs.gathering.with_part.Tie as tie
 
 mul-of : tie.Need-mul-of
 mul-of c = search needs
