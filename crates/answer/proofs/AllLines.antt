@@ -8,16 +8,17 @@ use lib.Dec.{eqb}
 use lib.ListN.{length, take, drop, length-drop, drop-of-length-le}
 use lib.Seq.{length-take-le}
 use Rattle.reply.specs.Reply.{Refusal, Reply, given, refused, _>>=_, _at_}
-use Rattle.text.specs.Text.{pieces, newline}
+use Rattle.reply.specs.Refusals.{numbered}
+use Rattle.reply.specs.declared.Refusal.the-variants as Refusals
+use Rattle.text.specs.Text.{pieces, newline, upTo}
+use Rattle.clauses.specs.Cnf.{Literal}
 use Rattle.answer.specs.Values.{Values, unclosed, closed}
 use Rattle.answer.specs.Lines.{Said, nothing, satisfied, noModel, lineOf, lineAfter, linesAfter, whole, readAnswer}
-use Rattle.answer.specs.Places.{upTo}
-use Rattle.answer.specs.Table.{tableOf, HoldsSaid, Tells}
-use Rattle.answer.specs.Told.{noValues, tabled}
+use Rattle.answer.specs.Marks.{tableOf}
+use Rattle.answer.specs.Progress.{HoldsSaid, Tells}
 use Rattle.answer.specs.declared.values.Stage.{Stage}
 use Rattle.answer.specs.declared.values.Stage.the-variants.{Silent, Closed, NoModel, Faulty}
-use Rattle.answer.specs.declared.lines.Verdict.the-variants as Verdicts
-use Rattle.answer.proofs.Places.{next-within, piece-at}
+use Rattle.text.proofs.Pieces.{next-within, piece-at}
 
 no-stage-is-faulty : (said : Said) (stage : Stage) (table : List ℕ) → HoldsSaid said stage table → stage ≡ Faulty → ⊥
 no-stage-is-faulty nothing stage table h e = let z : _≡_ {A = ℕ} 0 1 = cc in omega arith
@@ -27,23 +28,25 @@ no-stage-is-faulty noModel stage table h e = let z : _≡_ {A = ℕ} 0 1 = cc in
 
 -- Where all lines were read, the stage tells what is left to say.
 module _ (len : ℕ) (stage : Stage) (table : List ℕ) where
-  whole-closed : (said : Said) → HoldsSaid said stage table → stage ≡ Closed → record { verdict = Verdicts.Values; table = table } ≡ tabled (whole len said)
-  unfolding whole tabled
+  whole-closed :
+      (said : Said) → HoldsSaid said stage table → stage ≡ Closed → (ls : List Literal) × (whole len said ≡ given ls) × (table ≡ tableOf ls)
+  unfolding whole
   whole-closed nothing h e = absurd (let z : _≡_ {A = ℕ} 0 1 = cc in omega arith)
   whole-closed (satisfied (unclosed ls)) h e = absurd (let z : _≡_ {A = ℕ} 0 1 = cc in omega arith)
-  whole-closed (satisfied (closed ls)) h e = ap (λ (t : List ℕ). record { verdict = Verdicts.Values; table = t }) (h .1)
+  whole-closed (satisfied (closed ls)) h e = (ls, refl, h .1)
   whole-closed noModel h e = absurd (let z : _≡_ {A = ℕ} 0 1 = cc in omega arith)
 
-  whole-no-model : (said : Said) → HoldsSaid said stage table → stage ≡ NoModel → noValues Verdicts.NoModel ≡ tabled (whole len said)
-  unfolding whole tabled
+  whole-no-model : (said : Said) → HoldsSaid said stage table → stage ≡ NoModel → whole len said ≡ refused (numbered Refusals.NoModel)
+  unfolding whole numbered
   whole-no-model nothing h e = absurd (let z : _≡_ {A = ℕ} 0 1 = cc in omega arith)
   whole-no-model (satisfied (unclosed ls)) h e = absurd (let z : _≡_ {A = ℕ} 0 1 = cc in omega arith)
   whole-no-model (satisfied (closed ls)) h e = absurd (let z : _≡_ {A = ℕ} 0 1 = cc in omega arith)
   whole-no-model noModel h e = refl
 
   whole-missing :
-      (said : Said) → HoldsSaid said stage table → (stage ≡ Closed → ⊥) → (stage ≡ NoModel → ⊥) → noValues (Verdicts.Malformed len) ≡ tabled (whole len said)
-  unfolding whole tabled
+      (said : Said) → HoldsSaid said stage table → (stage ≡ Closed → ⊥) → (stage ≡ NoModel → ⊥) →
+      whole len said ≡ refused (numbered (Refusals.BadAnswer len))
+  unfolding whole numbered
   whole-missing nothing h c n = refl
   whole-missing (satisfied (unclosed ls)) h c n = refl
   whole-missing (satisfied (closed ls)) h c n = absurd (c (h .0))
@@ -103,18 +106,17 @@ module _ (text : List ℕ) (variables rankVariables : ℕ) where
 
         pub line-faulty :
             Tells HoldsSaid (13 at p) (lineAfter (13 at p) variables rankVariables (f .said) (lineOf (take (end - p) (drop p text)))) stage′ table′ →
-            stage′ ≡ Faulty → noValues (Verdicts.Malformed p) ≡ tabled (readAnswer variables rankVariables text)
-        unfolding _>>=_ readAnswer tabled
+            stage′ ≡ Faulty → readAnswer variables rankVariables text ≡ refused (numbered (Refusals.BadAnswer p))
+        unfolding _>>=_ readAnswer numbered
         line-faulty t faulty = go (lineAfter (13 at p) variables rankVariables (f .said) (lineOf (take (end - p) (drop p text)))) t one-line
           where
             go :
                 (x : Reply Said) → Tells HoldsSaid (13 at p) x stage′ table′ →
                 _>>=_ x (λ said′. linesAfter variables rankVariables (end + 1) said′ (pieces newline (drop (end + 1) text)))
                 ≡ linesAfter variables rankVariables 0 nothing (pieces newline text) →
-                noValues (Verdicts.Malformed p) ≡ tabled (readAnswer variables rankVariables text)
+                readAnswer variables rankVariables text ≡ refused (numbered (Refusals.BadAnswer p))
             go (given said) t e = absurd (no-stage-is-faulty said stage′ table′ t faulty)
-            go (refused r) t e =
-                ap (λ (r : Refusal). tabled (refused r)) (sym (t .1)) ∙ ap (λ (x : Reply Said). tabled (_>>=_ x (whole (length text)))) e
+            go (refused r) t e = ap (λ (x : Reply Said). _>>=_ x (whole (length text))) (sym e) ∙ ap (λ (r : Refusal). refused r) (t .1)
 
     -- No line is left.
     all-read : length text ≤ p → readAnswer variables rankVariables text ≡ whole (length text) (f .said)
@@ -122,13 +124,14 @@ module _ (text : List ℕ) (variables rankVariables : ℕ) where
     all-read over = ap (λ (x : Reply Said). _>>=_ x (whole (length text))) (sym (f .rest) ∙ ap (λ (l : List ℕ). linesAfter variables rankVariables p (f .said) (pieces newline l)) (drop-of-length-le text over))
 
     pub read-closed :
-        length text ≤ p → stage ≡ Closed → record { verdict = Verdicts.Values; table = table } ≡ tabled (readAnswer variables rankVariables text)
-    read-closed over e = whole-closed (length text) stage table (f .said) (f .holds) e ∙ ap tabled (sym (all-read over))
+        length text ≤ p → stage ≡ Closed →
+        (ls : List Literal) × (readAnswer variables rankVariables text ≡ given ls) × (table ≡ tableOf ls)
+    read-closed over e = let (ls, so, marks) = whole-closed (length text) stage table (f .said) (f .holds) e in (ls, all-read over ∙ so, marks)
 
-    pub read-no-model : length text ≤ p → stage ≡ NoModel → noValues Verdicts.NoModel ≡ tabled (readAnswer variables rankVariables text)
-    read-no-model over e = whole-no-model (length text) stage table (f .said) (f .holds) e ∙ ap tabled (sym (all-read over))
+    pub read-no-model : length text ≤ p → stage ≡ NoModel → readAnswer variables rankVariables text ≡ refused (numbered Refusals.NoModel)
+    read-no-model over e = all-read over ∙ whole-no-model (length text) stage table (f .said) (f .holds) e
 
     pub read-missing :
         length text ≤ p → (stage ≡ Closed → ⊥) → (stage ≡ NoModel → ⊥) →
-        noValues (Verdicts.Malformed (length text)) ≡ tabled (readAnswer variables rankVariables text)
-    read-missing over c n = whole-missing (length text) stage table (f .said) (f .holds) c n ∙ ap tabled (sym (all-read over))
+        readAnswer variables rankVariables text ≡ refused (numbered (Refusals.BadAnswer (length text)))
+    read-missing over c n = all-read over ∙ whole-missing (length text) stage table (f .said) (f .holds) c n

@@ -1,8 +1,8 @@
 -- The ranks that an answer gives are ranks that the rank check accepts: there is one for each symbol, and every rule was seen to
 -- decrease. By what was asked before they were given. Assumes nothing.
-use Prim.Native.Nat.{ℕ, zero, suc}
+use Prim.Native.Nat.{ℕ}
 use mathlib.Core.List.{List}
-use mathlib.Core.Path.{_≡_, refl, ap, subst, _∙_}
+use mathlib.Core.Path.{_≡_, subst, _∙_}
 use lib.Dec.{eqb-refl}
 use lib.ListN.{length, length-map}
 use Rattle.reply.specs.Reply.{given}
@@ -14,17 +14,13 @@ use Rattle.order.specs.Test.{exceeds}
 use Rattle.order.specs.Clearing.{allDecrease, ranksClear, checkRanks}
 use Rattle.clauses.specs.Cnf.{Assignment}
 use Rattle.clauses.specs.Numbering.{numbers, rankBelow, ranksOf}
-use Rattle.answer.specs.Ranks.{valued, answered, ranksFromAnswer}
-
-length-numbers : (first count : ℕ) → length (numbers first count) ≡ count
-unfolding numbers
-length-numbers first zero = refl
-length-numbers first (suc count) = ap suc (length-numbers (suc first) count)
+use Rattle.clauses.proofs.Lists.{numbers-length}
+use Rattle.answer.specs.Ranks.{valued, ranksChecked, answered, ranksFromAnswer}
 
 -- One rank for each symbol.
 pub length-ranksOf : (n k : ℕ) (α : Assignment) → length (ranksOf n k α) ≡ n
 unfolding ranksOf
-length-ranksOf n k α = length-map (numbers 0 n) (λ f. rankBelow k α f k) ∙ length-numbers 0 n
+length-ranksOf n k α = length-map (numbers 0 n) (λ f. rankBelow k α f k) ∙ numbers-length 0 n
 
 -- One rank for each symbol under which every rule decreases: the rank check asks no more.
 clearing :
@@ -33,7 +29,7 @@ unfolding ranksClear
 clearing book ranks count decrease = given-unless _ _ _ (rw count (eqb-refl (symbols book))) ∙ decrease
 
 answered-clear : (book : Book) (text : List ℕ) (room : ℕ) (ranks : List ℕ) → answered book text room ≡ given ranks → ranksClear book ranks ≡ given tt
-unfolding answered
+unfolding answered ranksChecked
 answered-clear book text room ranks e₀ =
     let (short, e₁) = unless-given _ _ _ _ e₀ in
     let (literals, read, e₂) = bind-given _ _ _ e₁ in

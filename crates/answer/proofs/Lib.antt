@@ -1,9 +1,5 @@
 pub mod Cases
 pub mod Checked
-pub mod Places
-pub mod SameText
-pub mod Numbers
-pub mod OneItem
 pub mod Marks
 pub mod Naming
 pub mod Stages
@@ -12,7 +8,6 @@ pub mod ValueLine
 pub mod OneLine
 pub mod LineKinds
 pub mod AllLines
-pub mod Told
 pub mod RanksAgree
 pub mod RankSums
 pub mod Afterwards

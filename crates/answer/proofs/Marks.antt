@@ -12,9 +12,10 @@ use lib.Seq.{ext-getD, getD-set-same, getD-set-other}
 use borrow.Author.Tests.{eq-eqb, ne-eqb}
 use Rattle.clauses.specs.Cnf.{Literal, is, isNot}
 use Rattle.clauses.specs.Numbering.{numbers}
+use Rattle.clauses.proofs.Lists.{numbers-length}
 use Rattle.answer.specs.Values.{variableOf, names}
 use Rattle.answer.specs.Ranks.{valued}
-use Rattle.answer.specs.Table.{mark, tableOf, sign}
+use Rattle.answer.specs.Marks.{mark, tableOf, sign, assigned}
 
 pub not-named-not-valued : (v : ℕ) (ls : List Literal) → names v ls ≡ false → valued ls v ≡ false
 unfolding names valued variableOf
@@ -83,11 +84,6 @@ mark-elsewhere (is u) ls v d = mark-code (is u ∷ ls) v ∙ rw (ne-eqb u v d) (
 mark-elsewhere (isNot u) ls v d = mark-code (isNot u ∷ ls) v ∙ rw (ne-eqb u v d) (sym (mark-code ls v))
 
 -- The table, entry by entry.
-length-numbers : (first count : ℕ) → length (numbers first count) ≡ count
-unfolding numbers
-length-numbers first zero = refl
-length-numbers first (suc count) = ap suc (length-numbers (suc first) count)
-
 marked-number : (f : ℕ → ℕ) (first count i : ℕ) → i < count → getD (map f (numbers first count)) i 0 ≡ f (first + i)
 unfolding numbers
 marked-number f first zero i h = absurd (omega arith)
@@ -96,7 +92,7 @@ marked-number f first (suc count) (suc i) h = marked-number f (suc first) count 
 
 pub length-table : (ls : List Literal) → length (tableOf ls) ≡ 64
 unfolding tableOf
-length-table ls = length-map (numbers 1 64) (mark ls) ∙ length-numbers 1 64
+length-table ls = length-map (numbers 1 64) (mark ls) ∙ numbers-length 1 64
 
 entry : (ls : List Literal) (i : ℕ) → i < 64 → getD (tableOf ls) i 0 ≡ mark ls (suc i)
 unfolding tableOf
@@ -127,3 +123,8 @@ module _ (l : Literal) (ls : List Literal) (low : 1 ≤ variableOf l) (high : va
     where
       as-long : length (set (tableOf ls) (variableOf l - 1) (sign l)) ≡ 64
       as-long = length-set (tableOf ls) (variableOf l - 1) (sign l) ∙ length-table ls
+
+-- "one not named counts as 0": the marks tell the values.
+pub assigned-valued : (ls : List Literal) (v : ℕ) → 1 ≤ v → v ≤ 64 → assigned (tableOf ls) v ≡ valued ls v
+unfolding assigned
+assigned-valued ls v low high = ap (λ (m : ℕ). eqb m 1) (table-at ls v low high) ∙ valued-by-mark ls v

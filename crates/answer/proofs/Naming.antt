@@ -10,7 +10,8 @@ use borrow.Author.Tests.{le-leb, lt-leb}
 use Rattle.reply.specs.Reply.{Refusal, given, refused, unless, _>>_}
 use Rattle.clauses.specs.Cnf.{Literal}
 use Rattle.answer.specs.Values.{unclosed, variableOf, names, named}
-use Rattle.answer.specs.Table.{mark, tableOf, sign, HoldsValues, Tells}
+use Rattle.answer.specs.Marks.{mark, tableOf, sign}
+use Rattle.answer.specs.Progress.{HoldsValues, Tells}
 use Rattle.answer.specs.declared.values.Stage.the-variants.{Open, Faulty}
 use Rattle.answer.proofs.Marks.{names-by-mark, names-by-other-mark, table-at, table-named}
 

@@ -9,7 +9,8 @@ use Rattle.text.specs.Text.{ascii, sameText, space, words}
 use Rattle.clauses.specs.Cnf.{Literal}
 use Rattle.answer.specs.Values.{unclosed, closed, itemAfter, itemsAfter}
 use Rattle.answer.specs.Lines.{Line, verdict, noLine, Said, nothing, satisfied, noModel, itemLine, valueLine, verdictLine, lineOf, verdictAfter, valuesAfter, lineAfter}
-use Rattle.answer.specs.Table.{tableOf, HoldsSaid, Tells}
+use Rattle.answer.specs.Marks.{tableOf}
+use Rattle.answer.specs.Progress.{HoldsSaid, Tells}
 use Rattle.answer.specs.declared.values.Stage.{Stage}
 use Rattle.answer.specs.declared.values.Stage.the-variants.{Silent, Open, Faulty}
 

@@ -7,7 +7,8 @@ use Rattle.reply.specs.Reply.{Refusal, Reply, given, refused, _>>=_}
 use Rattle.clauses.specs.Cnf.{Literal}
 use Rattle.clauses.specs.Item.{Item, item}
 use Rattle.answer.specs.Values.{Values, unclosed, closed, itemAfter}
-use Rattle.answer.specs.Table.{tableOf, HoldsValues, Tells, wordAfter}
+use Rattle.answer.specs.Marks.{tableOf}
+use Rattle.answer.specs.Progress.{HoldsValues, Tells, wordAfter}
 use Rattle.answer.specs.declared.values.Stage.{Stage}
 use Rattle.answer.specs.declared.values.Stage.the-variants.{Open, Faulty}
 

@@ -13,8 +13,8 @@ use Rattle.order.specs.SameRanks.{SameRanks}
 use Rattle.clauses.specs.Cnf.{Assignment}
 use Rattle.clauses.specs.Numbering.{bit, numbers, rankBelow, ranksOf}
 use Rattle.clauses.proofs.Larger.{rankBelow-bound}
-use Rattle.answer.specs.Told.{assigned}
-use Rattle.answer.specs.RankTable.{rankTable}
+use Rattle.answer.specs.Marks.{assigned}
+use Rattle.answer.specs.PaddedRanks.{paddedRanks}
 use Rattle.answer.proofs.Checked.{length-ranksOf}
 
 small-power : (b : ℕ) → b ≤ 4 → 2 ^ b ≤ 16
@@ -78,12 +78,12 @@ ranks-behind g first (suc count) =
     ∙ ap (λ (n : ℕ). g first ∷ map g (numbers (suc first) count) ++ (g n ∷ [])) (omega arith)
 
 module _ (k : ℕ) (α : Assignment) where
-  pub no-ranks : replicate 16 0 ≡ rankTable 0 k α
-  unfolding rankTable ranksOf numbers
+  pub no-ranks : replicate 16 0 ≡ paddedRanks 0 k α
+  unfolding paddedRanks ranksOf numbers
   no-ranks = refl
 
-  pub next-rank : (f r : ℕ) → f < 16 → r ≡ rankBelow k α f k → set (rankTable f k α) f r ≡ rankTable (f + 1) k α
-  unfolding rankTable ranksOf
+  pub next-rank : (f r : ℕ) → f < 16 → r ≡ rankBelow k α f k → set (paddedRanks f k α) f r ≡ paddedRanks (f + 1) k α
+  unfolding paddedRanks ranksOf
   next-rank f r h e = rw (add-one, room) (set-at (ranksOf f k α) 0 rest r f (length-ranksOf f k α) ∙ sym as-laid)
     where
       room : 16 - f ≡ suc (16 - suc f)
@@ -101,8 +101,8 @@ module _ (k : ℕ) (α : Assignment) where
           ∙ append-assoc (ranksOf f k α) (rankBelow k α (0 + f) k ∷ []) rest
           ∙ ap (λ (n : ℕ). ranksOf f k α ++ n ∷ rest) last
 
-  pub all-ranks : (n f : ℕ) (ranks : List ℕ) → f ≤ n → n ≤ f → ranks ≡ rankTable f k α → ranks ≡ rankTable n k α
-  all-ranks n f ranks h h′ e = e ∙ ap (λ (m : ℕ). rankTable m k α) (omega arith)
+  pub all-ranks : (n f : ℕ) (ranks : List ℕ) → f ≤ n → n ≤ f → ranks ≡ paddedRanks f k α → ranks ≡ paddedRanks n k α
+  all-ranks n f ranks h h′ e = e ∙ ap (λ (m : ℕ). paddedRanks m k α) (omega arith)
 
 -- The bits of one symbol stand before those of the next.
 pub bits-within : (n k f : ℕ) → f < n → n * k ≤ 64 → f * k + k ≤ 64
@@ -114,7 +114,7 @@ zeros zero i = refl
 zeros (suc m) zero = refl
 zeros (suc m) (suc i) = zeros m i
 
-pub padded-ranks : (ranks : List ℕ) (m : ℕ) → SameRanks (ranks ++ replicate m 0) ranks
-padded-ranks [] m i = zeros m i
-padded-ranks (r ∷ ranks) m zero = refl
-padded-ranks (r ∷ ranks) m (suc i) = padded-ranks ranks m i
+pub same-padded : (ranks : List ℕ) (m : ℕ) → SameRanks (ranks ++ replicate m 0) ranks
+same-padded [] m i = zeros m i
+same-padded (r ∷ ranks) m zero = refl
+same-padded (r ∷ ranks) m (suc i) = same-padded ranks m i

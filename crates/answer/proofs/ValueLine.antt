@@ -6,17 +6,17 @@ use mathlib.Core.Path.{_≡_, refl, sym, ap, _∙_}
 use native.Mathlib.Omega.{arith}
 use lib.Dec.{eqb}
 use lib.ListN.{length, take, drop, drop-of-length-le}
-use Rattle.text.specs.Text.{pieces, space, nonempty, words}
+use Rattle.text.specs.Text.{pieces, space, nonempty, words, upTo}
 use Rattle.reply.specs.Reply.{Refusal, Reply, given, refused, _>>=_}
 use Rattle.clauses.specs.Cnf.{Literal}
 use Rattle.clauses.specs.Item.{item}
 use Rattle.answer.specs.Values.{Values, unclosed, itemAfter, itemsAfter}
 use Rattle.answer.specs.Lines.{Said, satisfied, itemLine, valuesAfter, lineAfter}
-use Rattle.answer.specs.Places.{upTo}
-use Rattle.answer.specs.Table.{tableOf, HoldsValues, HoldsSaid, Tells, wordAfter}
+use Rattle.answer.specs.Marks.{tableOf}
+use Rattle.answer.specs.Progress.{HoldsValues, HoldsSaid, Tells, wordAfter}
 use Rattle.answer.specs.declared.values.Stage.{Stage}
 use Rattle.answer.specs.declared.values.Stage.the-variants.{Open, Faulty}
-use Rattle.answer.proofs.Places.{no-word-at, word-at}
+use Rattle.text.proofs.Pieces.{no-word-at, word-at}
 
 -- Values, as the lines say them.
 unfoldable said : Reply Values → Reply Said

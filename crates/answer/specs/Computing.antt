@@ -13,14 +13,12 @@ use Rattle.answer.specs.Lines.{
   whole,
   readAnswer,
 }
-use Rattle.answer.specs.Ranks.{valued, answered, ranksFromAnswer}
-use Rattle.answer.specs.Places.{upTo}
-use Rattle.answer.specs.Items.{within}
-use Rattle.answer.specs.Table.{mark, tableOf, wordAfter}
-use Rattle.answer.specs.Told.{noValues, tabled, assigned, verdictMeaning, meaning}
-use Rattle.answer.specs.RankTable.{rankTable}
-use Rattle.answer.specs.Answered.{answeredMeaning, ranksChecked}
+use Rattle.answer.specs.Ranks.{valued, ranksChecked, answered, ranksFromAnswer}
+use Rattle.answer.specs.Marks.{mark, tableOf, assigned}
+use Rattle.answer.specs.Progress.{wordAfter}
+use Rattle.answer.specs.PaddedRanks.{paddedRanks}
+use Rattle.answer.specs.Answered.{answeredMeaning}
 
 unfoldable pub computing : Unit {0}
-unfolding Computing.computing variableOf names named itemAfter itemsAfter itemLine valueLine verdictLine lineOf verdictAfter valuesAfter lineAfter linesAfter whole readAnswer valued answered ranksFromAnswer upTo within mark tableOf wordAfter noValues tabled assigned verdictMeaning meaning rankTable answeredMeaning ranksChecked
+unfolding Computing.computing variableOf names named itemAfter itemsAfter itemLine valueLine verdictLine lineOf verdictAfter valuesAfter lineAfter linesAfter whole readAnswer valued ranksChecked answered ranksFromAnswer mark tableOf assigned wordAfter paddedRanks answeredMeaning
 computing = tt

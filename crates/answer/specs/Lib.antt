@@ -1,10 +1,9 @@
 pub mod Values
 pub mod Lines
 pub mod Ranks
-pub mod Places
-pub mod Items
-pub mod Table
-pub mod Told
-pub mod RankTable
+pub mod Marks
+pub mod Progress
+pub mod AnswerRead
+pub mod PaddedRanks
 pub mod Answered
 pub mod Computing

@@ -21,14 +21,19 @@ valued [] v = false
 valued (is u ∷ ls) v = eqb u v || valued ls v
 valued (isNot u ∷ ls) v = valued ls v
 
--- "answer 12, 13, 14, 9, 8", of a book that was read; `room` is the lent buffer's length.
+-- "9, 8": the ranks of an assignment, once they are checked; `room` is the lent buffer's length.
+unfoldable pub ranksChecked : Book → Assignment → (room : ℕ) → Reply (List ℕ)
+ranksChecked book α room = do
+  unless (leb (symbols book) room) (9 at 0)
+  allDecrease (exceeds (ranksOf (symbols book) (rankBits (symbols book)) α)) 0 (book .rules)
+  given (ranksOf (symbols book) (rankBits (symbols book)) α)
+
+-- "answer 12, 13, 14, 9, 8", of a book that was read.
 unfoldable pub answered : Book → (text : List ℕ) (room : ℕ) → Reply (List ℕ)
 answered book text room = do
   unless (leb (length text) 65536) (12 at 0)
   literals ← readAnswer («V» book) (symbols book * rankBits (symbols book)) text
-  unless (leb (symbols book) room) (9 at 0)
-  allDecrease (exceeds (ranksOf (symbols book) (rankBits (symbols book)) (valued literals))) 0 (book .rules)
-  given (ranksOf (symbols book) (rankBits (symbols book)) (valued literals))
+  ranksChecked book (valued literals) room
 
 -- ENTRY POINT: ranks from an answer.
 unfoldable pub ranksFromAnswer : (book text : List ℕ) (room : ℕ) → Reply (List ℕ)

@@ -1,89 +1,75 @@
 // A solver's answer. The definitions stand in specs/.
-mod items;
-pub mod lines;
+mod lines;
 mod ranks;
-mod text;
 mod values;
 
 use book::Book;
 use book::BookVerdict;
 use lines::Verdict;
 use lines::read_values;
-use order::Decrease;
+use order::RanksVerdict;
 use ranks::ranks_of;
+use reply::Refusal;
 ghost use mathlib.Core.Path.{_≡_};
 ghost use lib.ListN.{length};
 ghost use Rattle.reply.specs.Lent.{laid, lengthOf};
 ghost use Rattle.book.specs.Meaning.{bookAt};
-ghost use Rattle.order.specs.Standing.{BookStands};
+ghost use Rattle.book.specs.WasRead.{ReadFrom};
 ghost use Rattle.clauses.specs.Blocks.{«V»};
-ghost use Rattle.answer.specs.Ranks.{answered, ranksFromAnswer};
-ghost use Rattle.answer.specs.Told.{assigned};
-ghost use Rattle.answer.specs.Answered.{answeredMeaning, ranksChecked, acceptedAs, ranksIn};
+ghost use Rattle.answer.specs.Ranks.{ranksChecked, answered, ranksFromAnswer};
+ghost use Rattle.answer.specs.Marks.{assigned};
+ghost use Rattle.answer.specs.Answered.{answeredMeaning, acceptedOf};
 
 // What comes of an answer: so many ranks accepted, or the refusal.
 pub enum Answered {
     Accepted(usize),
-    Unreadable(BookVerdict),
-    TooLong,
-    Malformed(usize),
-    NoModel,
-    ShortBuffer,
-    NotDecreasing(usize),
+    Refused(Refusal),
 }
 
-// What the check of ranks for so many symbols answers.
-fn accepted(found: Decrease, symbols: usize) -> Answered
-    ensures { λ r. ⌜ r ≡ acceptedAs symbols found ⌝ }
+// How many ranks are accepted, and so laid: one for each symbol, or none.
+fn accepted(verdict: RanksVerdict, symbols: usize) -> usize
+    ensures { λ r. ⌜ r ≡ acceptedOf symbols verdict ⌝ }
 {
-    match found {
-        Decrease::Everywhere => Answered::Accepted(symbols),
-        Decrease::NotAt(rule) => Answered::NotDecreasing(rule),
-    }
-}
-
-// How many ranks an answer accepts.
-fn ranks_in(answer: Answered) -> usize
-    ensures { λ r. ⌜ r ≡ ranksIn answer ⌝ }
-{
-    match answer {
-        Answered::Accepted(symbols) => symbols,
-        _ => 0,
+    match verdict {
+        RanksVerdict::Accepted => symbols,
+        RanksVerdict::Refused(_) => 0,
     }
 }
 
 // "9, 8", of the rank variables' values; "Accepted ranks are written to the first n bytes of the lent buffer".
 fn checked_ranks(bytes: &[u8], book: Book, table: [u8; 64], out: &mut [u8]) -> Answered
-    requires { ⌜ BookStands (now bytes) book (bookAt (now bytes) book) ⌝ }
+    requires { ⌜ ReadFrom (now bytes) book ⌝ }
     ensures means { λ r. ⌜ answeredMeaning r ≡ lengthOf (ranksChecked (bookAt (now (bytes .entry)) book) (assigned table) (length (now (out .entry)))) ⌝ }
     ensures lays { λ _. ⌜ now (out .exit) ≡ laid (ranksChecked (bookAt (now (bytes .entry)) book) (assigned table) (length (now (out .entry)))) (now (out .entry)) ⌝ }
 {
     let symbols = book.symbols;
     if out.len() < symbols {
-        return Answered::ShortBuffer;
+        return Answered::Refused(Refusal::ShortBuffer);
     }
     let ranks = ranks_of(&table, symbols, term::rank_bits(symbols));
-    let answer = accepted(order::first_not_decreasing(bytes, book, ranks), symbols);
-    term::copy(&ranks, 0, ranks_in(answer), out);
-    answer
+    let verdict = order::first_not_decreasing(bytes, book, ranks);
+    term::copy(&ranks, 0, accepted(verdict, symbols), out);
+    match verdict {
+        RanksVerdict::Accepted => Answered::Accepted(symbols),
+        RanksVerdict::Refused(why) => Answered::Refused(why),
+    }
 }
 
-// "answer 12, 13, 14, 9, 8", of a book that stands at its places; `variables` is the V of its clause file.
+// "answer 12, 13, 14, 9, 8", of a book that was read; `variables` is the V of its clause file.
 fn answer_to(bytes: &[u8], book: Book, variables: usize, text: &[u8], out: &mut [u8]) -> Answered
-    requires { ⌜ BookStands (now bytes) book (bookAt (now bytes) book) ⌝ }
+    requires { ⌜ ReadFrom (now bytes) book ⌝ }
     requires { ⌜ variables ≡ «V» (bookAt (now bytes) book) ⌝ }
     ensures means { λ r. ⌜ answeredMeaning r ≡ lengthOf (answered (bookAt (now (bytes .entry)) book) (now (text .entry)) (length (now (out .entry)))) ⌝ }
     ensures lays { λ _. ⌜ now (out .exit) ≡ laid (answered (bookAt (now (bytes .entry)) book) (now (text .entry)) (length (now (out .entry)))) (now (out .entry)) ⌝ }
 {
     if 65536 < text.len() {
-        return Answered::TooLong;
+        return Answered::Refused(Refusal::AnswerTooLong);
     }
     let symbols = book.symbols;
     let read = read_values(text, variables, symbols * term::rank_bits(symbols));
     let verdict = read.verdict;
     match verdict {
-        Verdict::Malformed(place) => Answered::Malformed(place),
-        Verdict::NoModel => Answered::NoModel,
+        Verdict::Refused(why) => Answered::Refused(why),
         Verdict::Values => {
             let table = read.table;
             checked_ranks(bytes, book, table, out)
@@ -99,9 +85,11 @@ pub fn ranks_from_answer(book: &[u8], text: &[u8], out: &mut [u8]) -> Answered
 {
     let read = book::read_book(book);
     let verdict = read.verdict;
-    let BookVerdict::Readable = verdict else {
-        return Answered::Unreadable(verdict);
-    };
-    let places = read.book;
-    answer_to(book, places, blocks::counting::variables(places), text, out)
+    match verdict {
+        BookVerdict::Refused(why) => Answered::Refused(why),
+        BookVerdict::Readable => {
+            let places = read.book;
+            answer_to(book, places, blocks::counting::variables(places), text, out)
+        }
+    }
 }

@@ -1,24 +1,25 @@
 // A solver's answer, line by line.
-use crate::text::next;
-use crate::text::same;
 use crate::values::Stage;
 use crate::values::items_after;
+use reply::Refusal;
+use text::reading::next;
+use text::reading::same;
 ghost use mathlib.Core.Path.{_≡_};
 ghost use mathlib.Core.List.{List};
 ghost use Prim.Native.Nat.{ℕ, _≤_};
-ghost use Rattle.reply.specs.Reply.{Refusal};
+ghost use Rattle.reply.specs.Reply.{Refusal as Fault};
 ghost use Rattle.answer.specs.Lines.{Said, valueLine, verdictLine, lineOf, lineAfter, readAnswer};
-ghost use Rattle.answer.specs.Table.{HoldsSaid, Tells};
-ghost use Rattle.answer.specs.Told.{noValues, tabled};
+ghost use Rattle.answer.specs.Progress.{HoldsSaid, Tells};
+ghost use Rattle.answer.specs.AnswerRead.{ReadAs};
 
-// What an answer comes to: values that are closed, a text that is malformed from a place on, or no model by the solver's claim.
+// What an answer comes to: values that are closed, or the refusal, 13 or 14.
 pub enum Verdict {
     Values,
-    Malformed(usize),
-    NoModel,
+    Refused(Refusal),
 }
 
 // An answer that was read: where it gives values, the table has at v − 1 how rank variable v is named, 0 not, 1 true, 2 false.
+// Marks and no values, as a variable that was named as false may not be named again.
 pub struct AnswerRead {
     pub verdict: Verdict,
     pub table: [u8; 64],
@@ -26,7 +27,7 @@ pub struct AnswerRead {
 
 // "Exactly one line `s SATISFIABLE`, `s UNSATISFIABLE` or `s UNKNOWN`, before any v line."
 fn verdict_after(line: &[u8], stage: Stage) -> Stage
-    ensures { λ r. ⌜ ((fault : Refusal) (variables rankVariables : ℕ) (said : Said) (table : List ℕ) → HoldsSaid said stage table →
+    ensures { λ r. ⌜ ((fault : Fault) (variables rankVariables : ℕ) (said : Said) (table : List ℕ) → HoldsSaid said stage table →
         Tells HoldsSaid fault (lineAfter fault variables rankVariables said (verdictLine (now (line .entry)))) r table) ⌝ }
 {
     let Stage::Silent = stage else {
@@ -53,7 +54,7 @@ fn values_after(
     table: &mut [u8; 64],
 ) -> Stage
     requires { ⌜ «rank_variables» ≤ 64 ⌝ }
-    ensures { λ r. ⌜ ((fault : Refusal) (said : Said) → HoldsSaid said stage (now (table .entry)) →
+    ensures { λ r. ⌜ ((fault : Fault) (said : Said) → HoldsSaid said stage (now (table .entry)) →
         Tells HoldsSaid fault (lineAfter fault variables «rank_variables» said (valueLine (now (bytes .entry)))) r (now (table .exit))) ⌝ }
 {
     let Stage::Open = stage else {
@@ -77,7 +78,7 @@ fn line_after(
     table: &mut [u8; 64],
 ) -> Stage
     requires { ⌜ «rank_variables» ≤ 64 ⌝ }
-    ensures { λ r. ⌜ ((fault : Refusal) (said : Said) → HoldsSaid said stage (now (table .entry)) →
+    ensures { λ r. ⌜ ((fault : Fault) (said : Said) → HoldsSaid said stage (now (table .entry)) →
         Tells HoldsSaid fault (lineAfter fault variables «rank_variables» said (lineOf (now (line .entry)))) r (now (table .exit))) ⌝ }
 {
     if line.len() == 0 {
@@ -92,21 +93,11 @@ fn line_after(
     verdict_after(line, stage)
 }
 
-// A refused reading has the empty table.
-fn no_values(verdict: Verdict) -> AnswerRead
-    ensures { λ r. ⌜ r ≡ noValues verdict ⌝ }
-{
-    AnswerRead {
-        verdict,
-        table: [0u8; 64],
-    }
-}
-
 // Reads an answer whose rank variables are at most 64: "lines ended by newline, the last newline optional"; 13 at the "start of the first
 // faulty line, or the text's length if something is missing", else 14, else the values of the rank variables.
 pub fn read_values(text: &[u8], variables: usize, rank_variables: usize) -> AnswerRead
     requires { ⌜ «rank_variables» ≤ 64 ⌝ }
-    ensures { λ r. ⌜ r ≡ tabled (readAnswer variables «rank_variables» (now (text .entry))) ⌝ }
+    ensures { λ r. ⌜ ReadAs (readAnswer variables «rank_variables» (now (text .entry))) (r .verdict) (r .table) ⌝ }
 {
     let mut table = [0u8; 64];
     let mut stage = Stage::Silent;
@@ -123,15 +114,16 @@ pub fn read_values(text: &[u8], variables: usize, rank_variables: usize) -> Answ
             &mut table,
         );
         if let Stage::Faulty = stage {
-            return no_values(Verdict::Malformed(start));
+            return AnswerRead {
+                verdict: Verdict::Refused(Refusal::BadAnswer(start)),
+                table,
+            };
         }
     }
-    match stage {
-        Stage::Closed => AnswerRead {
-            verdict: Verdict::Values,
-            table,
-        },
-        Stage::NoModel => no_values(Verdict::NoModel),
-        _ => no_values(Verdict::Malformed(text.len())),
-    }
+    let verdict = match stage {
+        Stage::Closed => Verdict::Values,
+        Stage::NoModel => Verdict::Refused(Refusal::NoModel),
+        _ => Verdict::Refused(Refusal::BadAnswer(text.len())),
+    };
+    AnswerRead { verdict, table }
 }

@@ -2,8 +2,8 @@
 ghost use mathlib.Core.Path.{_≡_};
 ghost use Prim.Native.Nat.{_+_, _*_, _≤_};
 ghost use Rattle.clauses.specs.Numbering.{rankBelow};
-ghost use Rattle.answer.specs.Told.{assigned};
-ghost use Rattle.answer.specs.RankTable.{rankTable};
+ghost use Rattle.answer.specs.Marks.{assigned};
+ghost use Rattle.answer.specs.PaddedRanks.{paddedRanks};
 
 // "The rank of f is the sum of 2^b over its true bits": bit b of symbol f stands at f·k + b.
 fn rank_of(table: &[u8; 64], bits: usize, f: usize) -> u8
@@ -28,7 +28,7 @@ fn rank_of(table: &[u8; 64], bits: usize, f: usize) -> u8
 // A rank for each of the symbols, and 0 behind them.
 pub fn ranks_of(table: &[u8; 64], symbols: usize, bits: usize) -> [u8; 16]
     requires { ⌜ (symbols ≤ 16) × (bits ≤ 4) × (symbols * bits ≤ 64) ⌝ }
-    ensures { λ r. ⌜ r ≡ rankTable symbols bits (assigned (now (table .entry))) ⌝ }
+    ensures { λ r. ⌜ r ≡ paddedRanks symbols bits (assigned (now (table .entry))) ⌝ }
 {
     let mut ranks = [0u8; 16];
     let mut f = 0;

@@ -1,7 +1,7 @@
 // The values of an answer: what its v lines name.
-use crate::items::Item;
-use crate::items::read_item;
-use crate::text::next;
+use items::Item;
+use items::read_item;
+use text::reading::next;
 ghost use mathlib.Core.Path.{_≡_};
 ghost use mathlib.Core.List.{List};
 ghost use Prim.Native.Nat.{_≤_};
@@ -10,7 +10,8 @@ ghost use Rattle.text.specs.Text.{space, words};
 ghost use Rattle.clauses.specs.Cnf.{Literal};
 ghost use Rattle.answer.specs.Values.{Values, unclosed, variableOf, named};
 ghost use Rattle.answer.specs.Lines.{satisfied, itemLine, lineAfter};
-ghost use Rattle.answer.specs.Table.{tableOf, sign, HoldsValues, HoldsSaid, Tells, wordAfter};
+ghost use Rattle.answer.specs.Marks.{tableOf, sign};
+ghost use Rattle.answer.specs.Progress.{HoldsValues, HoldsSaid, Tells, wordAfter};
 
 // How far the lines have come.
 pub enum Stage {

@@ -21,7 +21,7 @@ use Rattle.clauses.specs.Item.{Item, closing, literal, faulty}
 use Rattle.clauses.specs.File.{numberedBlock, blockOf, block}
 use Rattle.answer.specs.Values.{Values, unclosed, closed, variableOf, named, itemAfter, itemsAfter}
 use Rattle.answer.specs.Lines.{Line, comment, verdict, values, noLine, Said, nothing, satisfied, noModel, verdictAfter, valuesAfter, lineAfter, linesAfter, lineOf, whole, readAnswer}
-use Rattle.answer.specs.Ranks.{answered, ranksFromAnswer}
+use Rattle.answer.specs.Ranks.{ranksChecked, answered, ranksFromAnswer}
 use Rattle.steps.specs.Run.{ranCleared, run}
 use Rattle.steps.specs.Argument.{partOf, argumentOf, argument}
 use Rattle.demands.specs.EntryPoints.{Bytes, EntryPoint, bufferAfter, readingABook, aBlock, checkingRanks, ranksOfAnAnswer, aRun, anArgument, entryPoints}
@@ -229,7 +229,7 @@ whole-only len noModel = refusal-with _ tt
 
 answer-only :
     (book text : Bytes) (room : ℕ) → Only (1 ∷ 2 ∷ 3 ∷ 4 ∷ 5 ∷ 6 ∷ 12 ∷ 13 ∷ 14 ∷ 9 ∷ 8 ∷ []) (ranksFromAnswer book text room)
-unfolding ranksFromAnswer answered readAnswer
+unfolding ranksFromAnswer answered ranksChecked readAnswer
 answer-only book text room =
     after (more _ tt (book-only book))
     (λ b. test _ _ tt

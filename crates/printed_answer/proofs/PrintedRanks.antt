@@ -16,7 +16,7 @@ use Rattle.clauses.specs.Cnf.{Assignment}
 use Rattle.clauses.specs.Numbering.{ranksOf}
 use Rattle.clauses.specs.Blocks.{«V»}
 use Rattle.answer.specs.Lines.{readAnswer}
-use Rattle.answer.specs.Ranks.{valued, answered, ranksFromAnswer}
+use Rattle.answer.specs.Ranks.{valued, ranksChecked, answered, ranksFromAnswer}
 use Rattle.printed_answer.specs.Printed.{Printed, printedAnswer, allLiterals, TellsRanks}
 use Rattle.answer.proofs.RanksAgree.{ranks-agree}
 use Rattle.printed_answer.proofs.Printed.{printed-read}
@@ -41,7 +41,7 @@ module _
         (short : length (printedAnswer a) ≤ 65536)
       where
         printed-answered : answered book (printedAnswer a) room ≡ given (ranksOf (symbols book) (rankBits (symbols book)) α)
-        unfolding answered
+        unfolding answered ranksChecked
         printed-answered =
             let (ls, read, values) = printed-read («V» book) (symbols book * rankBits (symbols book)) α a tells in
             given-unless _ _ _ (le→leb _ _ short)

@@ -6,7 +6,7 @@ use native.Mathlib.Omega.{arith}
 use lib.ListN.{length}
 use borrow.Author.Needs.{needs}
 use Rattle.answer.specs.Computing.{computing}
-use Rattle.answer.proofs.Places.{next-within}
+use Rattle.text.proofs.Pieces.{next-within}
 use Rattle.answer.proofs.Stages.{not-faulty, neither-end}
 use Rattle.answer.proofs.AllLines.{From, at-first, line-on, line-faulty, read-closed, read-no-model, read-missing}
 use Rattle.answer.proofs.lines.read_values.Statement.{statement}
@@ -43,14 +43,11 @@ line-after-requires c κs = c .before .before .before .before .before .before .p
 enum-told : tie.Need-enum-told Inv-loop μ-loop
 enum-told c = search needs
 
-no-values-requires : tie.Need-no-values-requires Inv-loop μ-loop
-no-values-requires c κs = search needs
-
 returns : tie.Need-returns Inv-loop μ-loop
 returns c =
-    c .no-values .ensures
-    ∙ line-faulty _ _ _ (c .before .before .before .before .before .before .before .before .loop .inv) _ (c .before .before .before .before .before .before .before .loop-test .taken) (c .before .before .before .before .before .before .next .ensures) _ _
-    (c .before .before .before .line-after .ensures _ _ (c .before .before .before .before .before .before .before .before .loop .inv .holds)) (c .before .enum-told .given .1)
+    let f = c .before .before .before .before .before .before .before .loop .inv in
+    line-faulty _ _ _ f _ (c .before .before .before .before .before .before .loop-test .taken) (c .before .before .before .before .before .next .ensures) _ _
+    (c .before .before .line-after .ensures _ _ (f .holds)) (c .enum-told .given .1)
 
 loop-less : tie.Need-loop-less Inv-loop μ-loop
 loop-less c = omega (arith, c .before .before .before .before .next .ensures)
@@ -66,22 +63,16 @@ enum-told-2 c = search needs
 enum-told-3 : tie.Need-enum-told-3 Inv-loop μ-loop
 enum-told-3 c = search needs
 
-no-values-requires-2 : tie.Need-no-values-requires-2 Inv-loop μ-loop
-no-values-requires-2 c κs = search needs
-
-no-values-requires-3 : tie.Need-no-values-requires-3 Inv-loop μ-loop
-no-values-requires-3 c κs = search needs
-
 returns-2 : tie.Need-returns-2 Inv-loop μ-loop
 returns-2 c = read-closed _ _ _ (c .before .before .before .loop .inv) (c .before .before .loop-test .left) (c .enum-told2 .given .1)
 
 returns-3 : tie.Need-returns-3 Inv-loop μ-loop
-returns-3 c = c .no-values2 .ensures ∙ read-no-model _ _ _ (c .before .before .before .before .loop .inv) (c .before .before .before .loop-test .left) (c .before .enum-told3 .given .1)
+returns-3 c = read-no-model _ _ _ (c .before .before .before .loop .inv) (c .before .before .loop-test .left) (c .enum-told3 .given .1)
 
 returns-4 : tie.Need-returns-4 Inv-loop μ-loop
 returns-4 c =
-    let (c₁, c₂) = neither-end _ (c .before .match2 .keys3) in
-    c .no-values3 .ensures ∙ read-missing _ _ _ (c .before .before .before .loop .inv) (c .before .before .loop-test .left) c₁ c₂
+    let (c₁, c₂) = neither-end _ (c .match2 .keys3) in
+    read-missing _ _ _ (c .before .before .loop .inv) (c .before .loop-test .left) c₁ c₂
 
 pub read-values-spec : {M : Type 1} → statement M
 read-values-spec =
@@ -97,14 +88,11 @@ read-values-spec =
     part-line-after-end
     line-after-requires
     enum-told
-    no-values-requires
     returns
     loop-less
     loop-again
     enum-told-2
     enum-told-3
-    no-values-requires-2
-    no-values-requires-3
     returns-2
     returns-3
     returns-4)

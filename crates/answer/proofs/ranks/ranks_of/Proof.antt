@@ -2,14 +2,14 @@
 use Prim.Native.Nat.{_-_, _≤_}
 use mathlib.Core.Path.{_≡_}
 use native.Mathlib.Omega.{arith}
-use Rattle.answer.specs.Told.{assigned}
-use Rattle.answer.specs.RankTable.{rankTable}
+use Rattle.answer.specs.Marks.{assigned}
+use Rattle.answer.specs.PaddedRanks.{paddedRanks}
 use Rattle.answer.proofs.RankSums.{no-ranks, next-rank, all-ranks, bits-within}
 use Rattle.answer.proofs.ranks.ranks_of.Statement.{statement}
 use Rattle.answer.proofs.ranks.ranks_of.Tie as tie
 
 abbrev Inv-loop : tie.InvT-loop
-Inv-loop table symbols bits ranks₀ f₀ ranks f = (f ≤ symbols) × (ranks ≡ rankTable f bits (assigned table))
+Inv-loop table symbols bits ranks₀ f₀ ranks f = (f ≤ symbols) × (ranks ≡ paddedRanks f bits (assigned table))
 
 abbrev μ-loop : tie.MeasureT-loop
 μ-loop table symbols bits ranks₀ f₀ ranks f = symbols - f

@@ -4,8 +4,8 @@ use mathlib.Core.Path.{refl, sym, ap, _∙_}
 use borrow.Author.Needs.{needs}
 use Rattle.clauses.specs.Cnf.{is, isNot}
 use Rattle.answer.specs.Values.{variableOf, itemAfter}
-use Rattle.answer.specs.Items.{itemTold}
-use Rattle.answer.proofs.OneItem.{literal-from-one}
+use Rattle.items.specs.Meaning.{itemMeaning}
+use Rattle.items.proofs.OneItem.{is-from-one, is-not-from-one}
 use Rattle.answer.proofs.OneWord.{word-refused, word-taken}
 use Rattle.answer.proofs.Stages.{not-open}
 use Rattle.answer.proofs.values.word_after.Statement.{statement}
@@ -27,17 +27,15 @@ enum-known-v : tie.Need-enum-known-v
 enum-known-v c = search needs
 
 named-requires : tie.Need-named-requires
-unfolding variableOf
 named-requires c κs =
-    (literal-from-one _ _ (is _) (sym (ap itemTold (c .before .before .v .given .1)) ∙ c .before .before .before .before .read-item .ensures), c .before .before .before .before .before .before .before .before .pre)
+    (is-from-one _ _ _ (sym (ap itemMeaning (c .before .before .v .given .1)) ∙ c .before .before .before .before .read-item .ensures), c .before .before .before .before .before .before .before .before .pre)
 
 enum-known-v-2 : tie.Need-enum-known-v-2
 enum-known-v-2 c = search needs
 
 named-requires-2 : tie.Need-named-requires-2
-unfolding variableOf
 named-requires-2 c κs =
-    (literal-from-one _ _ (isNot _) (sym (ap itemTold (c .before .before .v2 .given .1)) ∙ c .before .before .before .before .read-item .ensures), c .before .before .before .before .before .before .before .before .pre)
+    (is-not-from-one _ _ _ (sym (ap itemMeaning (c .before .before .v2 .given .1)) ∙ c .before .before .before .before .read-item .ensures), c .before .before .before .before .before .before .before .before .pre)
 
 enum-told-3 : tie.Need-enum-told-3
 enum-told-3 c = search needs
@@ -46,27 +44,27 @@ returns-2 : tie.Need-returns-2
 unfolding itemAfter
 returns-2 c =
     λ fault. word-taken fault _ _ _ _ _ (c .before .before .before .enum-told .given .1)
-    (sym (c .before .before .read-item .ensures) ∙ ap itemTold (c .enum-told2 .given .1)) _ _ (λ ls t. (refl, t))
+    (sym (c .before .before .read-item .ensures) ∙ ap itemMeaning (c .enum-told2 .given .1)) _ _ (λ ls t. (refl, t))
 
 returns-3 : tie.Need-returns-3
 unfolding itemAfter variableOf
 returns-3 c =
     λ fault. word-taken fault _ _ _ _ _ (c .before .before .before .before .before .before .enum-told .given .1)
-    (sym (c .before .before .before .before .before .read-item .ensures) ∙ ap itemTold (c .before .before .before .v .given .1)) _ _
+    (sym (c .before .before .before .before .before .read-item .ensures) ∙ ap itemMeaning (c .before .before .before .v .given .1)) _ _
     (λ ls t. c .named .ensures fault (is _) ls refl refl t)
 
 returns-4 : tie.Need-returns-4
 unfolding itemAfter variableOf
 returns-4 c =
     λ fault. word-taken fault _ _ _ _ _ (c .before .before .before .before .before .before .enum-told .given .1)
-    (sym (c .before .before .before .before .before .read-item .ensures) ∙ ap itemTold (c .before .before .before .v2 .given .1)) _ _
+    (sym (c .before .before .before .before .before .read-item .ensures) ∙ ap itemMeaning (c .before .before .before .v2 .given .1)) _ _
     (λ ls t. c .named2 .ensures fault (isNot _) ls refl refl t)
 
 returns-5 : tie.Need-returns-5
 unfolding itemAfter
 returns-5 c =
     λ fault. word-taken fault _ _ _ _ _ (c .before .before .before .enum-told .given .1)
-    (sym (c .before .before .read-item .ensures) ∙ ap itemTold (c .enum-told3 .given .1)) _ _ (λ ls t. (refl, refl))
+    (sym (c .before .before .read-item .ensures) ∙ ap itemMeaning (c .enum-told3 .given .1)) _ _ (λ ls t. (refl, refl))
 
 pub word-after-spec : {M : Type 1} → statement M
 word-after-spec =

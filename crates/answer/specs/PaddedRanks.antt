@@ -1,4 +1,4 @@
--- Ranks in a table of 16.
+-- Ranks in an array of 16.
 use Prim.Native.Nat.{ℕ, _-_}
 use mathlib.Core.List.{List, _++_}
 use lib.ListN.{replicate}
@@ -6,5 +6,5 @@ use Rattle.clauses.specs.Cnf.{Assignment}
 use Rattle.clauses.specs.Numbering.{ranksOf}
 
 -- The ranks of n symbols, and 0 behind them.
-unfoldable pub rankTable : (n k : ℕ) → Assignment → List ℕ
-rankTable n k α = ranksOf n k α ++ replicate (16 - n) 0
+unfoldable pub paddedRanks : (n k : ℕ) → Assignment → List ℕ
+paddedRanks n k α = ranksOf n k α ++ replicate (16 - n) 0

@@ -1,10 +1,10 @@
--- `answer::items::read_item` meets its contract: the closing 0, no byte at all, a minus, or none. Assumes nothing.
+-- `items::read_item` meets its contract: the closing 0, no byte at all, a minus, or none. Assumes nothing.
 use mathlib.Core.Path.{sym, _∙_}
 use borrow.Author.Needs.{needs}
 use Rattle.clauses.specs.Cnf.{is, isNot}
-use Rattle.answer.proofs.OneItem.{closing-word, empty-word, minus, plain, nothing-read, literal-read}
-use Rattle.answer.proofs.items.read_item.Statement.{statement}
-use Rattle.answer.proofs.items.read_item.Tie as tie
+use Rattle.items.proofs.OneItem.{closing-word, empty-word, minus, plain, nothing-read, literal-read}
+use Rattle.items.proofs.read_item.Statement.{statement}
+use Rattle.items.proofs.read_item.Tie as tie
 
 slice-aggregate-same : tie.Need-slice-aggregate-same
 slice-aggregate-same c = search needs

@@ -1,30 +1,14 @@
--- What the reader of an answer holds of it: how far its lines have come, and a table of the rank variables.
+-- What the reader of an answer holds of it on the way: how far its lines have come, and the marks of the rank variables.
 use Prim.Native.Nat.{ℕ}
-use mathlib.Core.Bool.{true, false}
-use mathlib.Core.List.{List, [], map}
+use mathlib.Core.List.{List, []}
 use mathlib.Core.Path.{_≡_}
 use Rattle.reply.specs.Reply.{Refusal, Reply, given, refused, _>>=_}
-use Rattle.clauses.specs.Cnf.{Literal, is, isNot}
 use Rattle.clauses.specs.Item.{item}
-use Rattle.clauses.specs.Numbering.{numbers}
-use Rattle.answer.specs.Values.{Values, unclosed, closed, names, itemAfter}
+use Rattle.answer.specs.Values.{Values, unclosed, closed, itemAfter}
 use Rattle.answer.specs.Lines.{Said, nothing, satisfied, noModel}
-use Rattle.answer.specs.Ranks.{valued}
+use Rattle.answer.specs.Marks.{tableOf}
 use Rattle.answer.specs.declared.values.Stage.{Stage}
 use Rattle.answer.specs.declared.values.Stage.the-variants.{Silent, Open, Closed, NoModel, Faulty}
-
--- How literals leave a variable: 0 not named, 1 true, 2 named and not true.
-unfoldable pub mark : List Literal → ℕ → ℕ
-mark ls v = elim (valued ls v) [ true ↦ 1 | false ↦ elim (names v ls) [ true ↦ 2 | false ↦ 0 ] ]
-
--- The marks of the variables 1 to 64; there are never more rank variables.
-unfoldable pub tableOf : List Literal → List ℕ
-tableOf ls = map (mark ls) (numbers 1 64)
-
--- The mark that a literal leaves.
-abbrev pub sign : Literal → ℕ
-sign (is v) = 1
-sign (isNot v) = 2
 
 -- The stage and the table are those of the values so far, or of what the lines so far have said.
 abbrev pub HoldsValues : Values → Stage → List ℕ → Type 0

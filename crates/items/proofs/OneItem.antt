@@ -10,13 +10,11 @@ use lib.Dec.{leb}
 use lib.ListN.{length, getD, take, drop}
 use lib.Seq.{take-all}
 use borrow.Author.Tests.{le-leb, lt-leb, ne-eqb, leb-true}
-use Rattle.text.specs.Decimal.{number}
+use Rattle.text.specs.Decimal.{number, within}
 use Rattle.text.specs.Text.{ascii, sameText}
 use Rattle.clauses.specs.Cnf.{Literal, is, isNot}
 use Rattle.clauses.specs.Item.{Item, closing, literal, faulty, signed, literalOf, item}
-use Rattle.answer.specs.Values.{variableOf}
-use Rattle.answer.specs.Items.{within}
-use Rattle.answer.proofs.Numbers.{within-top, above-top}
+use Rattle.text.proofs.Numbers.{within-top, above-top}
 
 module _ (variables : ℕ) (sign : ℕ → Literal) where
   accepted : (w : ℕ) → 1 ≤ w → w ≤ variables → signed variables sign (some w) ≡ literal (sign w)
@@ -89,27 +87,28 @@ module _ (variables : ℕ) where
 -- A literal's variable is at least 1.
 abbrev FromOne : Item → Type 0
 FromOne closing = Unit {0}
-FromOne (literal l) = 1 ≤ variableOf l
+FromOne (literal (is v)) = 1 ≤ v
+FromOne (literal (isNot v)) = 1 ≤ v
 FromOne faulty = Unit {0}
 
-signed-from-one : (variables : ℕ) (sign : ℕ → Literal) → ((v : ℕ) → variableOf (sign v) ≡ v) → (o : Option ℕ) → FromOne (signed variables sign o)
+signed-from-one : (variables : ℕ) (sign : ℕ → Literal) → ((v : ℕ) → 1 ≤ v → FromOne (literal (sign v))) → (o : Option ℕ) → FromOne (signed variables sign o)
 unfolding signed
 signed-from-one variables sign own none = tt
 signed-from-one variables sign own (some v) = go (leb 1 v) (leb v variables) refl
   where
     go : (a b : Bool) → leb 1 v ≡ a → FromOne (elim (a && b) [ true ↦ literal (sign v) | false ↦ faulty ])
-    go true true e = rw (own v) (leb-true 1 v e)
+    go true true e = own v (leb-true 1 v e)
     go true false e = tt
     go false b e = tt
 
 word-from-one : (variables : ℕ) (word : List ℕ) → FromOne (literalOf variables word)
-unfolding literalOf variableOf
+unfolding literalOf
 word-from-one variables [] = tt
 word-from-one variables (b ∷ bs) = go (sameText (b ∷ []) (ascii "-"))
   where
     go : (t : Bool) → FromOne (elim t [ true ↦ signed variables isNot (number bs) | false ↦ signed variables is (number (b ∷ bs)) ])
-    go true = signed-from-one variables isNot (λ v. refl) (number bs)
-    go false = signed-from-one variables is (λ v. refl) (number (b ∷ bs))
+    go true = signed-from-one variables isNot (λ v h. h) (number bs)
+    go false = signed-from-one variables is (λ v h. h) (number (b ∷ bs))
 
 item-from-one : (variables : ℕ) (word : List ℕ) → FromOne (item variables word)
 unfolding item
@@ -119,5 +118,8 @@ item-from-one variables word = go (sameText word (ascii "0"))
     go true = tt
     go false = word-from-one variables word
 
-pub literal-from-one : (variables : ℕ) (word : List ℕ) (l : Literal) → literal l ≡ item variables word → 1 ≤ variableOf l
-literal-from-one variables word l e = subst FromOne (sym e) (item-from-one variables word)
+pub is-from-one : (variables : ℕ) (word : List ℕ) (v : ℕ) → literal (is v) ≡ item variables word → 1 ≤ v
+is-from-one variables word v e = subst FromOne (sym e) (item-from-one variables word)
+
+pub is-not-from-one : (variables : ℕ) (word : List ℕ) (v : ℕ) → literal (isNot v) ≡ item variables word → 1 ≤ v
+is-not-from-one variables word v e = subst FromOne (sym e) (item-from-one variables word)

@@ -1,0 +1,2 @@
+pub mod OneItem
+pub mod Settled
