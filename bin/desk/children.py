@@ -97,15 +97,17 @@ class _Talk:
 def run(command, given=b"", take=None, limit=None, folder=None, errors=None):
     """Runs a command and hands its output to `take`, piece by piece, until that answers False. The status that it ended with
     (negative for a signal); None where it did not end within `limit` seconds."""
-    with signals_wait():
-        child = subprocess.Popen(command, stdin=subprocess.PIPE, stdout=subprocess.PIPE, stderr=errors, cwd=folder, start_new_session=True)
+    child = None
     try:
-        with child.stdout:
-            ended = _Talk(child, given, take or (lambda piece: True)).until(None if limit is None else time.monotonic() + limit)
+        with signals_wait():
+            child = subprocess.Popen(command, stdin=subprocess.PIPE, stdout=subprocess.PIPE, stderr=errors, cwd=folder, start_new_session=True)
+        ended = _Talk(child, given, take or (lambda piece: True)).until(None if limit is None else time.monotonic() + limit)
     finally:
-        _end_group(child)
-        if not child.stdin.closed:
-            child.stdin.close()
+        if child is not None:
+            with signals_wait():
+                _end_group(child)
+                child.stdin.close()
+                child.stdout.close()
     return child.returncode if ended else None
 
 

@@ -5,7 +5,7 @@ import re
 import stat
 
 from desk import files, replies, sheet, solvers, source
-from desk.ends import DONE, REFUSED, SPENT, TOO_LARGE, End, broken
+from desk.ends import DONE, REFUSED, SPENT, TOO_LARGE, End, broken, signals_wait
 
 RESTS = "the ranks make every rule decrease: every record comes to rest"
 
@@ -50,7 +50,8 @@ class Desk:
         whose = self._whose(ranks, book)
         self.page.show(b"", ranks_of=whose)
         if whose == "another book":
-            self.page.say(f"note: {name} was made for another book, or for this one before it was changed: {name}.of has its sum. What follows is of the book as it is now")
+            self.page.say(f"note: {name} was made for another book, or for this one before it was changed: {name}.of has its sum. "
+                          "What follows is of the book as it is now")
         if whose == "changed":
             self.page.say(f"note: {name} is not as `clear` wrote it: {name}.of has its sum")
         return ranks
@@ -84,11 +85,15 @@ class Desk:
             raise end
         self._keep(book, target, ranks, reply, found.name)
         if sheet_file:
-            said = sheet.Cleared(book, ranks, replies.taken_apart("s", self.programs.ask("s", book=book.data)), found.name, solvers.version(found), self.programs.built)
-            files.put(sheet_file, sheet.page(said).encode(), "--sheet FILE")
-            self.page.show(b"", sheet=sheet_file)
-            self.page.say(f"the clearance sheet is {sheet_file}")
+            self._write_sheet(sheet_file, book, ranks, found)
         return DONE
+
+    def _write_sheet(self, name, book, ranks, found):
+        _, shown = self._ask("s", book=book.data)
+        cleared = sheet.Cleared(book, ranks, shown, found.name, solvers.version(found), self.programs.built)
+        files.put(name, sheet.page(cleared).encode("utf-8", "replace"), "--sheet FILE")
+        self.page.show(b"", sheet=name)
+        self.page.say(f"the clearance sheet is {name}")
 
     def answer(self, words, options):
         book = self._read_book(words[0])
@@ -134,8 +139,9 @@ class Desk:
             try:
                 self._write(book, target, ranks)
             except BaseException:
-                for each in (target, target + ".of"):
-                    files.remove(each)
+                with signals_wait():
+                    for each in (target, target + ".of"):
+                        files.remove(each)
                 raise
         self.page.show(reply, result="cleared", ranks=list(ranks), order=replies.levels(ranks), ranks_file=target)
         where = f"they are in {target}" if target else "they are in no file, as the book is none; --ranks FILE names one"
@@ -145,9 +151,9 @@ class Desk:
     def _write(self, book, target, ranks):
         files.remove(target + ".of")
         files.put(target, ranks, "--ranks FILE")
-        names = (book.name, target)
-        sums = (book.sum, hashlib.sha256(ranks).hexdigest())
-        files.put(target + ".of", "".join(f"{total}  {os.path.basename(name)}\n" for total, name in zip(sums, names)).encode("utf-8", "surrogateescape"), "--ranks FILE")
+        sums = ((book.sum, book.name), (hashlib.sha256(ranks).hexdigest(), target))
+        lines = "".join(f"{total}  {os.path.basename(name)}\n" for total, name in sums)
+        files.put(target + ".of", lines.encode("utf-8", "surrogateescape"), "--ranks FILE")
         now = files.read(book.name) if book.is_plain else book
         if now.data != book.data:
             raise broken(f"{book.name} was changed while it was being cleared; no ranks are left. Clear it again")
@@ -172,7 +178,8 @@ class Desk:
         aside = files.set_aside(target)
         files.remove(target + ".of")
         self.page.show(b"", older_ranks="do not clear the book")
-        self.page.say(f"note: {target} is from before and does NOT clear this book; " + (f"it is now {aside}" if aside else "it could not be renamed: remove it"))
+        now = f"it is now {aside}" if aside else "it could not be renamed: remove it"
+        self.page.say(f"note: {target} is from before and does NOT clear this book; {now}")
 
     # ---- the others
 

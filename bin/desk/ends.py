@@ -36,7 +36,7 @@ def reason(error):
 # ---- signals
 
 SIGNALS = (signal.SIGINT, signal.SIGTERM, signal.SIGHUP)
-_held, _pending = False, None
+_held, _pending = 0, None
 
 
 def _on_signal(number, _frame):
@@ -58,14 +58,14 @@ def heed_signals():
 
 @contextlib.contextmanager
 def signals_wait():
-    """For the moment between making a thing and noting that it must be removed: a signal is heeded at the end."""
+    """For making a thing that must be removed, and for removing it: a signal is heeded at the end."""
     global _held
-    _held = True
+    _held += 1
     try:
         yield
     finally:
-        _held = False
-        if _pending is not None:
+        _held -= 1
+        if _pending is not None and not _held:
             raise Stopped(_pending)
 
 

@@ -116,14 +116,14 @@ def put(name, data, option):
     at = within = None
     try:
         within = os.open(folder, os.O_RDONLY | os.O_DIRECTORY | os.O_CLOEXEC)
-        with signals_wait():
-            at = os.open(beside, os.O_WRONLY | os.O_CREAT | os.O_EXCL | os.O_NOFOLLOW | os.O_CLOEXEC, 0o666, dir_fd=within)
         try:
+            with signals_wait():
+                at = os.open(beside, os.O_WRONLY | os.O_CREAT | os.O_EXCL | os.O_NOFOLLOW | os.O_CLOEXEC, 0o666, dir_fd=within)
             _write_all(at, data)
             os.fsync(at)
             os.rename(beside, os.path.basename(name), src_dir_fd=within, dst_dir_fd=within)
         except BaseException:
-            with contextlib.suppress(FileNotFoundError):
+            with signals_wait(), contextlib.suppress(FileNotFoundError):
                 os.unlink(beside, dir_fd=within)
             raise
         os.fsync(within)

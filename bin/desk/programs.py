@@ -108,7 +108,11 @@ class Programs:
         except OSError:
             raise broken(f"{state}, and {folder} cannot be written; one who may write there has them proved by any command that reads a book") from None
         with lock:
-            fcntl.flock(lock, fcntl.LOCK_EX)
+            try:
+                fcntl.flock(lock, fcntl.LOCK_EX | fcntl.LOCK_NB)
+            except BlockingIOError:
+                self.say("another command is having the programs proved; waiting for it")
+                fcntl.flock(lock, fcntl.LOCK_EX)
             built = read_built(self.record)
             return built if self._is_current(built) else self._prove(state)
 

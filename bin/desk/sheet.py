@@ -38,7 +38,8 @@ SAYS = """Every record over this book's symbols, without variables, comes to res
 rule is applied at whichever place. The proved check decided so from the ranks below; the solver only proposed them."""
 
 SAYS_NOT = (
-    "that the date is right. The rules may name the wrong date and still come to rest; whether they say what the treatment needs is read from the rules, by a person.",
+    "that the date is right. The rules may name the wrong date and still come to rest; whether they say what the treatment needs is for a person "
+    "to read from the rules.",
     "that a run stays below 256 nodes. A run stops as <code>too large</code> where the next term would pass them, before the record has come to rest.",
     "that any one budget is enough. A run that is <code>spent</code> has not come to rest yet.",
     "anything of other bytes. Another book, or this one after a change, has another sum and needs its own clearance.",
@@ -81,15 +82,15 @@ def picture(ranks, arities):
 def _facts(cleared):
     built = cleared.built
     return (
-        ("book", os.path.basename(cleared.book.name)),
+        ("book", html.escape(os.path.basename(cleared.book.name))),
         ("its bytes", str(len(cleared.book.data))),
         ("its SHA-256", f"<code>{cleared.book.sum}</code>"),
         ("cleared on", datetime.datetime.now(datetime.timezone.utc).strftime("%Y-%m-%d %H:%M UTC")),
         ("ranks", f"<code>{' '.join(map(str, cleared.ranks)) or 'none: the book has no symbols'}</code>"),
-        ("proposed by", f"{cleared.solver} {cleared.solver_version}".strip()),
-        ("checked by", f"rulebook {built['version']}"),
+        ("proposed by", html.escape(f"{cleared.solver} {cleared.solver_version}".strip())),
+        ("checked by", html.escape(f"rulebook {built['version']}")),
         ("proved sources", f"SHA-256 <code>{built['sources']}</code>"),
-        ("proved with", built.get("kit", "not told")),
+        ("proved with", html.escape(built.get("kit", "not told"))),
     )
 
 
@@ -101,7 +102,7 @@ def _rules(rules):
 def page(cleared):
     name = html.escape(os.path.basename(cleared.book.name))
     arities = {symbol["name"]: symbol["arity"] for symbol in cleared.shown["symbols"]}
-    facts = "".join(f"<tr><th>{label}</th><td>{value if value.startswith(('<code>', 'SHA-256 <code>')) else html.escape(value)}</td></tr>" for label, value in _facts(cleared))
+    facts = "".join(f"<tr><th>{label}</th><td>{value}</td></tr>" for label, value in _facts(cleared))
     return f"""<!DOCTYPE html>
 <html lang="en">
 <head>

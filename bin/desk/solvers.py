@@ -7,6 +7,7 @@ import shlex
 import shutil
 import sys
 import tempfile
+from subprocess import DEVNULL
 from typing import Callable, NamedTuple
 
 if __name__ == "__main__":
@@ -140,7 +141,7 @@ def install_by_apt(package, say):
         return False
     say(f"installing {package} by apt-get")
     for command in (["update", "-q"], ["install", "-y", "-q", *package.split()]):
-        children.run(["apt-get", *command], limit=600, errors=children.subprocess.DEVNULL)
+        children.run(["apt-get", *command], limit=600, errors=DEVNULL)
     return True
 
 
@@ -161,20 +162,31 @@ class Answer(NamedTuple):
     status: int
 
 
-def solve(found, cnf, limit):
-    """The solver's answer to a clause file, which alone lies in the folder that it runs in."""
+def _folder_with(cnf):
+    """A folder that holds the clause file, and is the solver's to write in."""
+    folder = None
     try:
         with signals_wait():
             folder = tempfile.mkdtemp(prefix="rulebook.")
-    except OSError as error:
-        raise broken(f"no folder can be made for the solver: {reason(error)}") from None
+        with open(os.path.join(folder, "book.cnf"), "xb") as file:
+            file.write(cnf)
+    except BaseException as error:
+        if folder:
+            _remove(folder)
+        if isinstance(error, OSError):
+            raise broken(f"the clause file cannot be written for the solver: {reason(error)}") from None
+        raise
+    return folder
+
+
+def solve(found, cnf, limit):
+    """The solver's answer to a clause file, which alone lies in the folder that it runs in."""
+    folder = _folder_with(cnf)
     try:
         file, result = os.path.join(folder, "book.cnf"), os.path.join(folder, "result")
-        with open(file, "xb") as out:
-            out.write(cnf)
         printed = Printed()
         words = [*found.start, *found.row.words, file, *([result] if found.row.mend is of_result else [])]
-        status = children.run(words, take=printed, limit=limit, folder=folder, errors=children.subprocess.DEVNULL)
+        status = children.run(words, take=printed, limit=limit, folder=folder, errors=DEVNULL)
         if status is None:
             raise End(TIMED_OUT, f"{found.name} gave no answer within {limit} seconds; --limit gives it more")
         text = files.read_left_behind(result) if found.row.mend is of_result else bytes(printed.text)
@@ -182,7 +194,8 @@ def solve(found, cnf, limit):
     except OSError as error:
         raise broken(f"{found.name} cannot be run: {reason(error)}") from None
     finally:
-        _remove(folder)
+        with signals_wait():
+            _remove(folder)
 
 
 def version(found):
@@ -191,7 +204,7 @@ def version(found):
         return ""
     said = children.Output(4096)
     try:
-        children.run([*found.start, "--version"], take=said, limit=10, errors=children.subprocess.DEVNULL)
+        children.run([*found.start, "--version"], take=said, limit=10, errors=DEVNULL)
     except OSError:
         return ""
     lines = bytes(said.text).decode(errors="replace").splitlines()
