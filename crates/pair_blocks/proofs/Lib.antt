@@ -1,1 +1,2 @@
 pub mod PairNumbers
+pub mod Settled

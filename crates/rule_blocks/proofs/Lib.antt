@@ -5,3 +5,4 @@ pub mod PartsAt
 pub mod NodesBlock
 pub mod SubtermsAt
 pub mod RuleNumbers
+pub mod Settled

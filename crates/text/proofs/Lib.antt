@@ -6,3 +6,4 @@ pub mod Pieces
 pub mod SameText
 pub mod Numbers
 pub mod Laying
+pub mod Settled
