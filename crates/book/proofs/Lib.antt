@@ -23,3 +23,6 @@ pub mod RecordGoing
 pub mod Settled
 pub mod PlacedCases
 pub mod RecordBack
+pub mod BytesRead
+pub mod BytesTaken
+pub mod ReadExactly

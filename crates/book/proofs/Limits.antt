@@ -22,31 +22,31 @@ use Rattle.book.proofs.Tests.{Passed, passed}
 use Rattle.book.proofs.KindNumbers.{by-kind}
 
 -- The nodes of a side that is open: so many subterms are missing, one at least, and there are at most ten nodes.
-record Open (arities : List ℕ) (missing : ℕ) (nodes : List Node) : Type 0 where
-  filled : Leaves arities (λ x. x ≤ 15) 1 nodes missing
-  some-missing : 0 < missing
-  few : length nodes ≤ 10
+pub record Open (arities : List ℕ) (missing : ℕ) (nodes : List Node) : Type 0 where
+  pub filled : Leaves arities (λ x. x ≤ 15) 1 nodes missing
+  pub some-missing : 0 < missing
+  pub few : length nodes ≤ 10
 
 -- What the machine's stage keeps to. While a side is open its rule is still to be counted.
-abbrev StageKept : List ℕ → List Rule → Stage → Type 0
+abbrev pub StageKept : List ℕ → List Rule → Stage → Type 0
 StageKept arities rules beforeRules = rules ≡ []
 StageKept arities rules (inLeft m ns) = (length rules < 32) × Open arities m ns
 StageKept arities rules (inRight l m ns) = (length rules < 32) × Open arities m ns × SideWithinLimits arities l
 StageKept arities rules ruleWhole = length rules ≤ 32
 
-record RuleKept (arities : List ℕ) (r : Rule) : Type 0 where
-  left : SideWithinLimits arities (r .left)
-  right : SideWithinLimits arities (r .right)
+pub record RuleKept (arities : List ℕ) (r : Rule) : Type 0 where
+  pub left : SideWithinLimits arities (r .left)
+  pub right : SideWithinLimits arities (r .right)
 
 -- What the symbols and the whole rules keep to.
-record Settled (arities : List ℕ) (rules : List Rule) : Type 0 where
-  symbolCount : length arities ≤ 16
-  arity : (a : ℕ) → List·Memᴰ a arities → a ≤ 6
-  sides : (r : Rule) → List·Memᴰ r rules → RuleKept arities r
+pub record Settled (arities : List ℕ) (rules : List Rule) : Type 0 where
+  pub symbolCount : length arities ≤ 16
+  pub arity : (a : ℕ) → List·Memᴰ a arities → a ≤ 6
+  pub sides : (r : Rule) → List·Memᴰ r rules → RuleKept arities r
 
-record Kept (s : State) : Type 0 where
-  settled : Settled (s .arities) (s .rules)
-  stage : StageKept (s .arities) (s .rules) (s .stage)
+pub record Kept (s : State) : Type 0 where
+  pub settled : Settled (s .arities) (s .rules)
+  pub stage : StageKept (s .arities) (s .rules) (s .stage)
 
 -- What holds of each element and of one more holds of each of them.
 each-and-one-more :
@@ -153,7 +153,7 @@ module _ (s : State) (kept : Kept s) where
       (λ is here fits room. kept)
       (tests .here) (tests .fits) (tests .room)
 
-  record-kept : (len p k : ℕ) (body : List ℕ) (s′ : State) → recordAt len s p k body ≡ given s′ → Kept s′
+  pub record-kept : (len p k : ℕ) (body : List ℕ) (s′ : State) → recordAt len s p k body ≡ given s′ → Kept s′
   unfolding recordAt
   record-kept len p k body s′ e =
       let ((t, taken), same) = then-given _ _ _ e in
@@ -195,12 +195,14 @@ from-kept (suc fuel) len s p (k ∷ bytes) book kept e =
     (λ no-end. from-kept fuel len s′ (p + 1 + bodyLength k) (drop (bodyLength k) bytes) book kept′)
     rest
 
-pub read-within-limits : (bytes : List ℕ) (book : Book) → readBook bytes ≡ given book → WithinLimits book
-unfolding readBook start
-read-within-limits bytes book e =
-    from-kept (length bytes) (length bytes) start 0 bytes book
-    (record {
+pub start-kept : Kept start
+unfolding start
+start-kept =
+    record {
       settled = record { symbolCount = omega arith; arity = λ a m. absurd (List·Memᴰ·not-nil m); sides = λ r m. absurd (List·Memᴰ·not-nil m) };
       stage = refl;
-    })
-    (told-given _ _ _ e)
+    }
+
+pub read-within-limits : (bytes : List ℕ) (book : Book) → readBook bytes ≡ given book → WithinLimits book
+unfolding readBook
+read-within-limits bytes book e = from-kept (length bytes) (length bytes) start 0 bytes book start-kept (told-given _ _ _ e)

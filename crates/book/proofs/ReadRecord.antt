@@ -55,7 +55,7 @@ end-taken len p [] e = absurd (refused-not-given (EndedEarly len) tt e)
 end-taken len p (k ∷ []) e = ap (λ (j : ℕ). j ∷ []) (eqb→eq k 5 (unless-given-alone _ _ e))
 end-taken len p (k ∷ b ∷ bytes) e = absurd (refused-not-given (AfterTheTerm (p + 1)) tt ((unless-given _ _ _ _ e) .1))
 
-nodesBytes-append : (nodes more : List Node) → nodesBytes (nodes ++ more) ≡ nodesBytes nodes ++ nodesBytes more
+pub nodesBytes-append : (nodes more : List Node) → nodesBytes (nodes ++ more) ≡ nodesBytes nodes ++ nodesBytes more
 unfolding nodesBytes
 nodesBytes-append [] more = refl
 nodesBytes-append (this ∷ nodes) more = rw (nodesBytes-append nodes more, append-assoc)

@@ -24,7 +24,7 @@ listed-length nil = refl
 listed-length (cons t ts) = ap suc (listed-length ts)
 
 -- A symbol takes its own arguments off the trees behind it.
-own-arguments :
+pub own-arguments :
     (arities : List ℕ) (f : ℕ) (ts : Args) (behind : List Term) → count ts ≡ getD arities f 0 → onto arities (symbolic f) (listed ts ++ behind) ≡ app f ts ∷ behind
 unfolding onto
 own-arguments arities f ts behind many =

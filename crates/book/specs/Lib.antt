@@ -8,6 +8,7 @@ pub mod Meaning
 pub mod Record
 pub mod RecordMeaning
 pub mod Limits
+pub mod Bytes
 pub mod Standing
 pub mod WasRead
 pub mod Examples
