@@ -88,8 +88,8 @@ def overview():
 
 def help_on(name):
     command = COMMANDS[name]
-    options = "".join(f" [{option} ..]" for option in (*command.options, "--json"))
-    return f"rulebook {name} {' '.join(command.words)}{options}\n\n{command.help}"
+    words = " ".join((name, *command.words, *(f"[{option} ..]" for option in command.options), "[--json]"))
+    return f"rulebook {words}\n\n{command.help}"
 
 
 def misused(sentence):
@@ -158,7 +158,7 @@ def _show_version(programs, page):
 
 
 def _perform(words, home, page):
-    programs = Programs(home, page.say)
+    programs = Programs(home, page.say_now)
     if not words:
         files.print_error(overview().rstrip("\n"))
         return MISUSED

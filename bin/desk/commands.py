@@ -74,7 +74,7 @@ class Desk:
             files.may_become(sheet_file, [book], "--sheet FILE")
         try:
             _, head = self._heard("clause_file", cnf := self.programs.clause_file(book.data), book.data)
-            found = solvers.find(options.get("--solver"), solvers.install_by_apt, self.page.say)
+            found = solvers.find(options.get("--solver"), solvers.install_by_apt, self.page.say_now)
             self.page.show(b"", solver={"name": found.name, "words": list(found.start)}, clause_file=head["header"])
             answer = solvers.solve(found, cnf, options["--limit"])
             reply, ranks = self._ranks(book, answer.text)

@@ -7,9 +7,15 @@ from desk.ends import MISUSED, End
 
 class Page:
     def __init__(self, as_json):
-        self.as_json, self.lines, self.facts, self.said = as_json, b"", {}, []
+        self.as_json, self.lines, self.facts, self.said, self.held = as_json, b"", {}, [], []
 
     def say(self, sentence):
+        """A sentence that goes with the lines, and stands behind them."""
+        self.said.append(sentence)
+        self.held.append(sentence)
+
+    def say_now(self, sentence):
+        """What takes a while."""
         self.said.append(sentence)
         files.print_error(f"rulebook: {sentence}")
 
@@ -26,6 +32,8 @@ class Page:
         try:
             files.print_out(lines)
         except End as end:
+            status = MISUSED
             self.say(end.sentence)
-            return MISUSED
+        for sentence in self.held:
+            files.print_error(f"rulebook: {sentence}")
         return status

@@ -5,7 +5,7 @@ import pty
 import subprocess
 import time
 
-from at_the_desk.room import ELEVEN, FOURTEEN, HOME, HOW, ORDER_LAST, SECONDS, SEVEN, THIRTEEN, TWELVE, AnyLast, Room, compare, holds
+from at_the_desk.room import ELEVEN, FOURTEEN, HOME, HOW, ORDER_LAST, SECONDS, SEVEN, THIRTEEN, TWELVE, Room, compare, holds
 
 
 def inputs():
@@ -80,10 +80,10 @@ def ranks():
                                          "as an order: f2 > f0, f1 (names with a comma between them have equal ranks and are unrelated)"], ran.sentences)
         room.expect(1, "refused 7 at 0", SEVEN, "check", "addition.book", "nothing")
         room.expect(1, "refused 7 at 0", SEVEN, "check", "addition.book", "zeros")
-        eight = 'does not decrease under these ranks: other ranks may do, and "rulebook clear" asks a solver for them; "rulebook show" prints the rule'
+        eight = 'does not decrease under these ranks: other ranks may do, and "rulebook clear" asks a solver for them'
         ran = room.expect(1, "refused 8 at 0", "rule 0: f0(x0) -> f1(x0)", "check", "one_rule.book", "unordered")
         compare("refusal 8: its sentence", f"rule 0 {eight}", ran.sentences[0])
-        room.expect(1, "refused 8 at 1", AnyLast(""), "run", "undo.book", "short", "undo.record")
+        room.expect(1, "refused 8 at 1", "rule 1: f1(x0) -> f0(x0)", "run", "undo.book", "short", "undo.record")
         room.expect(0, "done", "no rule fits any more", "run", "addition.book", "ordered", "addition.record")
         room.expect(0, "done", "no rule fits any more", "run", "addition.book", "ordered", "addition.record", "--budget", "18446744073709551615")
         room.expect(4, "too large", "the next term would have more than 256 nodes",
@@ -110,6 +110,8 @@ def on_terminal(room):
     ran = room.finish(child)
     os.close(ours)
     compare("on a terminal: its end", (0, "done"), (ran.status, ran.first))
+    together = room.use("check", "one_rule.book", "unordered", stderr=subprocess.STDOUT)
+    compare("on one terminal the line stands before its sentences", "refused 8 at 0", together.first)
     holds("on a terminal: how far it is", b"steps 10000, nodes" in told)
 
 
