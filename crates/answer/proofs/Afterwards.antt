@@ -42,7 +42,7 @@ use Rattle.answer.specs.declared.lines.Verdict.the-variants as Verdicts
 use Rattle.answer.proofs.Marks.{assigned-valued}
 use Rattle.answer.proofs.RanksAgree.{ranks-agree}
 use Rattle.answer.proofs.Checked.{length-ranksOf}
-use Rattle.answer.proofs.RankSums.{same-padded}
+use Rattle.answer.proofs.PaddedRanks.{same-padded}
 
 -- What the contract asks of an answer and of the lent buffer, for the reply x on paper.
 abbrev pub AnsweredAs : Reply (List ℕ) → (buffer : List ℕ) → Answered → (after : List ℕ) → Type 0

@@ -10,5 +10,6 @@ pub mod LineKinds
 pub mod AllLines
 pub mod RanksAgree
 pub mod RankSums
+pub mod PaddedRanks
 pub mod Afterwards
 pub mod Settled

@@ -40,7 +40,8 @@ fn accepted(verdict: RanksVerdict, symbols: usize) -> usize
 fn checked_ranks(bytes: &[u8], book: Book, table: [u8; 64], out: &mut [u8]) -> Answered
     requires { ⌜ ReadFrom (now bytes) book ⌝ }
     ensures means { λ r. ⌜ answeredMeaning r ≡ lengthOf (ranksChecked (bookAt (now (bytes .entry)) book) (assigned table) (length (now (out .entry)))) ⌝ }
-    ensures lays { λ _. ⌜ now (out .exit) ≡ laid (ranksChecked (bookAt (now (bytes .entry)) book) (assigned table) (length (now (out .entry)))) (now (out .entry)) ⌝ }
+    ensures lays { λ _. ⌜ now (out .exit) ≡
+        laid (ranksChecked (bookAt (now (bytes .entry)) book) (assigned table) (length (now (out .entry)))) (now (out .entry)) ⌝ }
 {
     let symbols = book.symbols;
     if out.len() < symbols {
@@ -60,7 +61,8 @@ fn answer_to(bytes: &[u8], book: Book, variables: usize, text: &[u8], out: &mut 
     requires { ⌜ ReadFrom (now bytes) book ⌝ }
     requires { ⌜ variables ≡ «V» (bookAt (now bytes) book) ⌝ }
     ensures means { λ r. ⌜ answeredMeaning r ≡ lengthOf (answered (bookAt (now (bytes .entry)) book) (now (text .entry)) (length (now (out .entry)))) ⌝ }
-    ensures lays { λ _. ⌜ now (out .exit) ≡ laid (answered (bookAt (now (bytes .entry)) book) (now (text .entry)) (length (now (out .entry)))) (now (out .entry)) ⌝ }
+    ensures lays { λ _. ⌜ now (out .exit) ≡
+        laid (answered (bookAt (now (bytes .entry)) book) (now (text .entry)) (length (now (out .entry)))) (now (out .entry)) ⌝ }
 {
     if 65536 < text.len() {
         return Answered::Refused(Refusal::AnswerTooLong);

@@ -74,7 +74,8 @@ pub fn items_after(
 ) -> Stage
     requires { ⌜ «rank_variables» ≤ 64 ⌝ }
     ensures { λ r. ⌜ ((fault : Refusal) (ls : List Literal) → now (table .entry) ≡ tableOf ls →
-        Tells HoldsSaid fault (lineAfter fault variables «rank_variables» (satisfied (unclosed ls)) (itemLine (words space (now (items .entry))))) r (now (table .exit))) ⌝ }
+        Tells HoldsSaid fault (lineAfter fault variables «rank_variables» (satisfied (unclosed ls)) (itemLine (words space (now (items .entry)))))
+        r (now (table .exit))) ⌝ }
 {
     let mut stage = Stage::Open;
     let mut found = false;

@@ -4,7 +4,7 @@ use mathlib.Core.Path.{_≡_}
 use native.Mathlib.Omega.{arith}
 use Rattle.answer.specs.Marks.{assigned}
 use Rattle.answer.specs.PaddedRanks.{paddedRanks}
-use Rattle.answer.proofs.RankSums.{no-ranks, next-rank, all-ranks, bits-within}
+use Rattle.answer.proofs.PaddedRanks.{no-ranks, next-rank, all-ranks, bits-within}
 use Rattle.answer.proofs.ranks.ranks_of.Statement.{statement}
 use Rattle.answer.proofs.ranks.ranks_of.Tie as tie
 
