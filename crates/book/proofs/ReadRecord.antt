@@ -3,10 +3,11 @@
 use Prim.Native.Nat.{ℕ, zero, suc, _+_, pred, _≤_, _<_}
 use mathlib.Core.Bool.{not}
 use mathlib.Core.List.{List, [], _∷_, _++_, append-assoc}
-use mathlib.Core.Path.{_≡_, refl, sym, ap, subst, _∙_}
+use mathlib.Core.Path.{_≡_, refl, sym, ap, ap₂, subst, _∙_}
 use native.Mathlib.Omega.{arith}
 use lib.Dec.{T, eqb, eqb→eq, leb→le, ltb→lt}
 use lib.ListN.{length, getD, drop, length-append}
+use lib.Seq.{drop-drop}
 use Rattle.reply.specs.Reply.{given}
 use Rattle.term.specs.Tables.{bodyLength, bodyLengths}
 use Rattle.term.specs.Term.{Term, size, over, variableFree}
@@ -14,7 +15,7 @@ use Rattle.term.specs.Prefix.{Node, symbolic, arityOf, tree, recordBytes}
 use Rattle.reply.proofs.Given.{refused-not-given, bind-given, then-given, unless-given, unless-given-alone, either-given, told-given}
 use Rattle.term.proofs.Prefix.{declared, Leaves, noNode, leaves-next, leaves-variable, nodeBytes, nodesBytes, TreeOf, tree-fills, no-variable→free}
 use Rattle.book.specs.Book.{Book}
-use Rattle.book.specs.Record.{recordNode, recordEnd, nodesFrom, recordTerm, readRecord}
+use Rattle.book.specs.Record.{recordNode, recordEnd, OneTerm, nodesFrom, oneTerm, recordTerm, readRecord}
 use Rattle.book.specs.declared.RecordFault.the-variants.{EndedEarly, AfterTheTerm}
 
 -- A node that was taken: its two bytes, a declared symbol, and room for it.
@@ -64,28 +65,24 @@ some-missing : (missing : ℕ) → T (not (eqb missing 0)) → 0 < missing
 some-missing zero h = absurd h
 some-missing (suc missing) h = omega arith
 
--- All nodes of a record: behind `nodes` of them stand `bytes`.
-record AllTaken (arities : List ℕ) (nodes : List Node) (bytes : List ℕ) (all : List Node) : Type 0 where
-  filled : Leaves arities (λ x. ⊥) 1 all 0
-  few : length all ≤ 256
-  itsBytes : nodesBytes nodes ++ bytes ≡ nodesBytes all ++ (5 ∷ [])
+-- All nodes of a term: behind `nodes` of them stand `bytes`.
+record AllTaken (arities : List ℕ) (nodes : List Node) (bytes : List ℕ) (found : OneTerm) : Type 0 where
+  filled : Leaves arities (λ x. ⊥) 1 (found .nodes) 0
+  few : length (found .nodes) ≤ 256
+  itsBytes : nodesBytes nodes ++ bytes ≡ nodesBytes (found .nodes) ++ found .rest
 
 all-taken :
-    (arities : List ℕ) (missing : ℕ) (nodes all : List Node) (bytes : List ℕ) → Leaves arities (λ x. ⊥) 1 nodes missing → length nodes ≤ 256 →
-    missing ≡ 0 → bytes ≡ 5 ∷ [] → nodes ≡ all → AllTaken arities nodes bytes all
-all-taken arities missing nodes all bytes filled few none-missing end same =
-    record {
-      filled = subst (λ (ns : List Node). Leaves arities (λ x. ⊥) 1 ns 0) same (subst (λ (m : ℕ). Leaves arities (λ x. ⊥) 1 nodes m) none-missing filled);
-      few = subst (λ (ns : List Node). length ns ≤ 256) same few;
-      itsBytes = cc;
-    }
+    (arities : List ℕ) (missing : ℕ) (found : OneTerm) → Leaves arities (λ x. ⊥) 1 (found .nodes) missing → length (found .nodes) ≤ 256 → missing ≡ 0 →
+    AllTaken arities (found .nodes) (found .rest) found
+all-taken arities missing found filled few none-missing =
+    record { filled = subst (λ (m : ℕ). Leaves arities (λ x. ⊥) 1 (found .nodes) m) none-missing filled; few = few; itsBytes = refl }
 
 -- One node earlier: its bytes are the first two of those behind.
 one-earlier :
-    (arities : List ℕ) (nodes : List Node) (f : ℕ) (bytes : List ℕ) (all : List Node) → bytes ≡ 3 ∷ f ∷ drop 2 bytes →
-    AllTaken arities (nodes ++ (symbolic f ∷ [])) (drop 2 bytes) all → AllTaken arities nodes bytes all
+    (arities : List ℕ) (nodes : List Node) (f : ℕ) (bytes : List ℕ) (found : OneTerm) → bytes ≡ 3 ∷ f ∷ drop 2 bytes →
+    AllTaken arities (nodes ++ (symbolic f ∷ [])) (drop 2 bytes) found → AllTaken arities nodes bytes found
 unfolding nodesBytes nodeBytes
-one-earlier arities nodes f bytes all its taken =
+one-earlier arities nodes f bytes found its taken =
     record {
       filled = taken .filled;
       few = taken .few;
@@ -95,36 +92,65 @@ one-earlier arities nodes f bytes all its taken =
     }
 
 nodes-taken :
-    (fuel : ℕ) (arities : List ℕ) (len missing : ℕ) (nodes : List Node) (p : ℕ) (bytes : List ℕ) (all : List Node) →
+    (fuel : ℕ) (arities : List ℕ) (len missing : ℕ) (nodes : List Node) (p : ℕ) (bytes : List ℕ) (found : OneTerm) →
     Leaves arities (λ x. ⊥) 1 nodes missing → length nodes ≤ 256 → p + length bytes ≡ len →
-    nodesFrom fuel arities len missing nodes p bytes ≡ given all → AllTaken arities nodes bytes all
+    nodesFrom fuel arities len missing nodes p bytes ≡ given found → AllTaken arities nodes bytes found
 unfolding nodesFrom arityOf
-nodes-taken zero arities len missing nodes p bytes all filled few stands e = absurd (refused-not-given (EndedEarly len) all e)
-nodes-taken (suc fuel) arities len missing nodes p bytes all filled few stands e =
-    either-given (eqb missing 0) _ _ all
+nodes-taken zero arities len missing nodes p bytes found filled few stands e = absurd (refused-not-given (EndedEarly len) found e)
+nodes-taken (suc fuel) arities len missing nodes p bytes found filled few stands e =
+    either-given (eqb missing 0) _ _ found
     (λ none-missing whole.
-    let ((end, ended), same) = then-given _ _ _ whole in
-    all-taken arities missing nodes all bytes filled few (eqb→eq missing 0 none-missing) (end-taken len p bytes ended) (cc same))
+    let this : OneTerm = record { nodes = nodes; behind = p; rest = bytes } in
+    let same : this ≡ found = cc whole in
+    subst (λ (one : OneTerm). AllTaken arities nodes bytes one) same (all-taken arities missing this filled few (eqb→eq missing 0 none-missing)))
     (λ not-none more.
     let (f, taken, rest) = bind-given (recordNode (length arities) len (length nodes) p bytes) _ _ more in
     let this : Taken (length arities) (length nodes) f bytes = node-taken (length arities) len (length nodes) p bytes f stands taken in
-    one-earlier arities nodes f bytes all (this .itsBytes)
-    (nodes-taken fuel arities len (pred missing + getD arities f 0) (nodes ++ (symbolic f ∷ [])) (p + 2) (drop 2 bytes) all
+    one-earlier arities nodes f bytes found (this .itsBytes)
+    (nodes-taken fuel arities len (pred missing + getD arities f 0) (nodes ++ (symbolic f ∷ [])) (p + 2) (drop 2 bytes) found
     (leaves-next missing (some-missing missing not-none) filled (declared (this .isDeclared)))
     (simp length-append (omega arith)) (omega (arith, ap length (this .itsBytes))) rest))
     e
 
+term-taken : (arities bytes : List ℕ) (found : OneTerm) → oneTerm arities bytes ≡ given found → AllTaken arities [] bytes found
+unfolding oneTerm
+term-taken arities bytes found e = nodes-taken (suc (length bytes)) arities (length bytes) 1 [] 0 bytes found noNode (omega arith) (omega arith) e
+
+-- A term that was read has the nodes that were.
+pub term-nodes : (arities bytes : List ℕ) (found : OneTerm) → oneTerm arities bytes ≡ given found → size (tree arities (found .nodes)) ≡ length (found .nodes)
+term-nodes arities bytes found e = tree-fills arities (λ x. ⊥) (found .nodes) (term-taken arities bytes found e .filled) .nodeCount
+
+-- What stands behind it are the bytes from the place behind it on.
+nodes-rest :
+    (fuel : ℕ) (arities : List ℕ) (len missing : ℕ) (nodes : List Node) (p : ℕ) (whole : List ℕ) (found : OneTerm) →
+    nodesFrom fuel arities len missing nodes p (drop p whole) ≡ given found → found .rest ≡ drop (found .behind) whole
+unfolding nodesFrom
+nodes-rest zero arities len missing nodes p whole found e = absurd (refused-not-given (EndedEarly len) found e)
+nodes-rest (suc fuel) arities len missing nodes p whole found e =
+    either-given (eqb missing 0) _ _ found
+    (λ none-missing is. let same : record { nodes = nodes; behind = p; rest = drop p whole } ≡ found = cc is in subst (λ (one : OneTerm). one .rest ≡ drop (one .behind) whole) same refl)
+    (λ not-none more.
+    let (f, taken, rest) = bind-given (recordNode (length arities) len (length nodes) p (drop p whole)) _ _ more in
+    nodes-rest fuel arities len (pred missing + getD arities f 0) (nodes ++ (symbolic f ∷ [])) (p + 2) whole found
+    (ap (nodesFrom fuel arities len (pred missing + getD arities f 0) (nodes ++ (symbolic f ∷ [])) (p + 2)) (sym (drop-drop 2 p whole)) ∙ rest))
+    e
+
+pub term-rest : (arities bytes : List ℕ) (found : OneTerm) → oneTerm arities bytes ≡ given found → found .rest ≡ drop (found .behind) bytes
+unfolding oneTerm
+term-rest arities bytes found e = nodes-rest (suc (length bytes)) arities (length bytes) 1 [] 0 bytes found e
+
 -- What a record that was read is.
 tree-read :
-    (arities : List ℕ) (bytes : List ℕ) (all : List Node) → AllTaken arities [] bytes all →
-    T (over arities (tree arities all)) × T (variableFree (tree arities all)) × (size (tree arities all) ≤ 256) × (bytes ≡ recordBytes (tree arities all))
+    (arities : List ℕ) (bytes : List ℕ) (found : OneTerm) → AllTaken arities [] bytes found → found .rest ≡ 5 ∷ [] → let t = tree arities (found .nodes) in
+    T (over arities t) × T (variableFree t) × (size t ≤ 256) × (bytes ≡ recordBytes t)
 unfolding recordBytes nodesBytes
-tree-read arities bytes all its =
+tree-read arities bytes found its end =
+    let all = found .nodes in
     let t : TreeOf arities all (tree arities all) = tree-fills arities (λ x. ⊥) all (its .filled) in (
       t .overSymbols,
       no-variable→free (tree arities all) (λ x o. leaves-variable (its .filled) (t .variables x o)),
       omega (arith, t .nodeCount, its .few),
-      its .itsBytes ∙ ap (λ (l : List ℕ). l ++ (5 ∷ [])) (sym (t .bytes)),
+      its .itsBytes ∙ ap₂ (λ (l r : List ℕ). l ++ r) (sym (t .bytes)) end,
     )
 
 pub record-read :
@@ -132,7 +158,7 @@ pub record-read :
     T (over (book .arities) t) × T (variableFree t) × (size t ≤ 256) × (bytes ≡ recordBytes t)
 unfolding readRecord recordTerm
 record-read book bytes t e =
-    let (all, taken, same) = bind-given _ _ _ (told-given _ _ _ e) in
+    let (found, taken, behind) = bind-given _ _ _ (told-given _ _ _ e) in
+    let ((end, ended), same) = then-given _ _ _ behind in
     subst (λ (u : Term). T (over (book .arities) u) × T (variableFree u) × (size u ≤ 256) × (bytes ≡ recordBytes u)) (cc same)
-    (tree-read (book .arities) bytes all
-    (nodes-taken (suc (length bytes)) (book .arities) (length bytes) 1 [] 0 bytes all noNode (omega arith) (omega arith) taken))
+    (tree-read (book .arities) bytes found (term-taken (book .arities) bytes found taken) (end-taken (length bytes) (found .behind) (found .rest) ended))

@@ -19,7 +19,7 @@ use Rattle.term.specs.At.{At}
 use Rattle.term.proofs.At.{at-unique}
 use Rattle.term.proofs.PrefixAt.{prefix-length, prefix-at}
 use Rattle.book.specs.Book.{Book}
-use Rattle.book.specs.Record.{refusalOf, recordNode, recordEnd, nodesFrom, recordTerm, readRecord}
+use Rattle.book.specs.Record.{refusalOf, recordNode, recordEnd, nodesFrom, oneTerm, recordTerm, readRecord}
 use Rattle.book.proofs.RecordStands.{term-read}
 
 module _ (arities : List ℕ) (len : ℕ) where
@@ -99,23 +99,23 @@ module _ (arities : List ℕ) (len : ℕ) where
               ∙ told-otherwise ns₂ refl refl (omega arith) refl,
         )
 
-  -- Behind a whole term stands the end.
-  end-passed : (fuel p : ℕ) (ns : List Node) → nodesFrom (suc fuel) arities len 0 ns p (5 ∷ []) ≡ given ns
-  unfolding nodesFrom recordEnd _>>_
-  end-passed fuel p ns = given-unless _ _ _ tt
+  -- No subterm is missing behind a whole term.
+  all-passed : (fuel p : ℕ) (ns : List Node) (rest : List ℕ) → nodesFrom (suc fuel) arities len 0 ns p rest ≡ given (record { nodes = ns; behind = p; rest = rest })
+  unfolding nodesFrom
+  all-passed fuel p ns rest = refl
 
 -- So some term is read.
 some-term :
     (arities : List ℕ) (t : Term) → T (over arities t) → T (variableFree t) → size t ≤ 256 → (u : Term) × (recordTerm arities (recordBytes t) ≡ given u)
-unfolding recordTerm recordBytes Past
+unfolding recordTerm oneTerm recordBytes recordEnd Past _>>_
 some-term arities t o free few =
     let len : ℕ = length (prefix t ++ (5 ∷ [])) in
     let long : len ≡ 2 * size t + 1 = length-append (prefix t) (5 ∷ []) ∙ ap (λ (n : ℕ). n + 1) (prefix-length t) in
     let (ns, counted, past) = past-term arities len t o free (suc (size t + 1)) 0 [] 0 (5 ∷ []) (omega arith) (omega arith) in
-    let all : nodesFrom (suc len) arities len 1 [] 0 (prefix t ++ (5 ∷ [])) ≡ given ns =
-    told-otherwise arities len [] (omega arith) refl refl refl ∙ past ∙ end-passed arities len (size t + 1) (0 + 2 * size t) ns
+    let all : nodesFrom (suc len) arities len 1 [] 0 (prefix t ++ (5 ∷ [])) ≡ given (record { nodes = ns; behind = 0 + 2 * size t; rest = 5 ∷ [] }) =
+    told-otherwise arities len [] (omega arith) refl refl refl ∙ past ∙ all-passed arities len (size t + 1) (0 + 2 * size t) ns (5 ∷ [])
     in
-    (tree arities ns, given-bind _ _ ns all)
+    (tree arities ns, given-bind _ _ _ all ∙ given-unless _ _ _ tt)
 
 -- And the term that is read has the same bytes.
 pub record-back :

@@ -7,22 +7,21 @@ use native.Mathlib.Decide.{decLt}
 use native.Mathlib.Omega.{arith}
 use borrow.Author.Tests.{eq-eqb, ne-eqb}
 use lib.Dec.{eqb→eq, leb→le, ltb→lt}
-use lib.ListN.{length, getD, drop, length-append, length-drop}
+use lib.ListN.{length, getD, drop, length-append}
 use lib.Seq.{drop-drop}
 use Rattle.reply.specs.Reply.{Attempt, given, refused, _>>_, _>>=_}
 use Rattle.term.specs.Tables.{bodyLength, bodyLengths}
-use Rattle.term.specs.Term.{Term, size}
-use Rattle.term.specs.Prefix.{Node, symbolic, tree, prefix, recordBytes}
-use Rattle.reply.proofs.Given.{refused-not-given, unless-given}
-use Rattle.term.proofs.PrefixAt.{prefix-length}
-use Rattle.book.specs.Record.{recordNode, recordEnd, nodesFrom, recordTerm}
-use Rattle.book.specs.RecordMeaning.{recordVerdict, nodeFound, endFound}
-use Rattle.book.specs.declared.NodeFound.the-variants.{Symbol, Faulty}
+use Rattle.term.specs.Prefix.{Node, symbolic, tree}
+use Rattle.reply.proofs.Given.{refused-not-given, unless-given, given-bind}
+use Rattle.book.specs.Record.{recordNode, recordEnd, OneTerm, nodesFrom, oneTerm, recordTerm}
+use Rattle.book.specs.RecordMeaning.{recordVerdict, termFound, nodeFound, endFound}
+use Rattle.book.specs.declared.records.NodeFound as node
 use Rattle.book.specs.declared.RecordFault.{RecordFault}
-use Rattle.book.specs.declared.RecordFault.the-variants.{EndedEarly, AfterTheTerm}
-use Rattle.book.specs.declared.RecordVerdict.the-variants.{Whole}
+use Rattle.book.specs.declared.RecordFault.the-variants.{EndedEarly}
+use Rattle.book.specs.declared.RecordVerdict.the-variants.{Whole, Faulty}
+use Rattle.book.specs.declared.records.TermFound as term
+use Rattle.book.proofs.ReadRecord.{term-nodes, term-rest}
 use Rattle.book.proofs.RecordSteps.{nodeTests, no-node, tests}
-use Rattle.book.proofs.RecordStands.{TermRead, term-read}
 
 -- The reading of the record goes on at p, behind so many nodes, while so many subterms are missing.
 pub record NodesGoing (bytes arities : List ℕ) (missing nodes p : ℕ) : Type 0 where
@@ -31,7 +30,6 @@ pub record NodesGoing (bytes arities : List ℕ) (missing nodes p : ℕ) : Type 
   pub enough : length bytes < p + fuel
   pub same : nodesFrom fuel arities (length bytes) missing came p (drop p bytes) ≡ nodesFrom (suc (length bytes)) arities (length bytes) 1 [] 0 bytes
   pub count : nodes ≡ length came
-  pub place : p ≡ 2 * nodes
   pub within : p ≤ length bytes
   pub few : nodes ≤ 256
   pub bound : missing ≤ 1 + 255 * nodes
@@ -44,7 +42,6 @@ nodes-start bytes arities =
       enough = omega arith;
       same = refl;
       count = refl;
-      place = omega arith;
       within = omega arith;
       few = omega arith;
       bound = omega arith;
@@ -79,25 +76,15 @@ node-passed bytes n nodes p f e =
     ]
 
 -- What the answer for a node tells of it.
-pub found-symbol : (x : Attempt RecordFault ℕ) (f : ℕ) → nodeFound x ≡ Symbol f → x ≡ given f
+pub found-symbol : (x : Attempt RecordFault ℕ) (f : ℕ) → nodeFound x ≡ node.the-variants.Symbol f → x ≡ given f
 unfolding nodeFound
 found-symbol (given g) f e = cc
 found-symbol (refused g) f e = let z : _≡_ {A = ℕ} 0 1 = cc in absurd (omega arith)
 
-pub found-faulty : (x : Attempt RecordFault ℕ) (f : RecordFault) → nodeFound x ≡ Faulty f → x ≡ refused f
+pub found-faulty : (x : Attempt RecordFault ℕ) (f : RecordFault) → nodeFound x ≡ node.the-variants.Faulty f → x ≡ refused f
 unfolding nodeFound
 found-faulty (given g) f e = let z : _≡_ {A = ℕ} 0 1 = cc in absurd (omega arith)
 found-faulty (refused g) f e = cc
-
--- An end that was taken is the last byte.
-end-last : (len p : ℕ) (bytes : List ℕ) → recordEnd len p bytes ≡ given tt → length bytes ≡ 1
-unfolding recordEnd
-end-last len p [] e = absurd (refused-not-given (EndedEarly len) tt e)
-end-last len p (k ∷ []) e = refl
-end-last len p (k ∷ b ∷ bytes) e = absurd (refused-not-given (AfterTheTerm (p + 1)) tt ((unless-given _ _ _ _ e) .1))
-
-end-place : (bytes : List ℕ) (p : ℕ) → p ≤ length bytes → recordEnd (length bytes) p (drop p bytes) ≡ given tt → length bytes ≡ p + 1
-end-place bytes p within e = omega (arith, end-last (length bytes) p (drop p bytes) e, length-drop p bytes)
 
 module _ (bytes arities : List ℕ) (missing nodes p : ℕ) (g : NodesGoing bytes arities missing nodes p) where
   -- There is fuel for one node more.
@@ -136,11 +123,10 @@ module _ (bytes arities : List ℕ) (missing nodes p : ℕ) (g : NodesGoing byte
         (node-there ∙ e))
 
     -- The node at p is refused.
-    pub node-faulty : (f : RecordFault) → node-here ≡ refused f → recordTerm arities bytes ≡ refused f
-    unfolding recordTerm _>>=_
+    pub node-faulty : (f : RecordFault) → node-here ≡ refused f → oneTerm arities bytes ≡ refused f
+    unfolding oneTerm _>>=_
     node-faulty f e =
-        with-fuel (λ fuel enough same.
-        ap (λ (x : Attempt RecordFault (List Node)). _>>=_ x (λ ns. given (tree arities ns))) (sym same ∙ node-turn fuel (refused f) e))
+        with-fuel (λ fuel enough same. (sym same ∙ node-turn fuel (refused f) e))
 
     -- The node at p is taken.
     pub node-on :
@@ -158,38 +144,44 @@ module _ (bytes arities : List ℕ) (missing nodes p : ℕ) (g : NodesGoing byte
               ∙ sym (node-turn fuel (given f) e)
               ∙ same;
           count = simp length-append (omega (arith, g .count));
-          place = omega (arith, g .place);
           within = passed .whole;
           few = omega (arith, passed .room);
           bound = omega (arith, g .bound);
         })
 
-  -- No subterm is missing: the end is next.
-  end-turn : (fuel : ℕ) → missing ≡ 0 →
-      nodesFrom (suc fuel) arities (length bytes) missing (g .came) p (drop p bytes) ≡ _>>_ (recordEnd (length bytes) p (drop p bytes)) (given (g .came))
-  unfolding nodesFrom
-  end-turn fuel none = rw (nodesFrom, eq-eqb missing 0 none)
+  -- No subterm is missing: the term is whole.
+  pub term-ends : missing ≡ 0 → oneTerm arities bytes ≡ given (record { nodes = g .came; behind = p; rest = drop p bytes })
+  unfolding oneTerm nodesFrom
+  term-ends none = with-fuel (λ fuel enough same. sym same ∙ rw (nodesFrom, eq-eqb missing 0 none))
 
-  whole-term : missing ≡ 0 → recordTerm arities bytes ≡ _>>=_ (_>>_ (recordEnd (length bytes) p (drop p bytes)) (given (g .came))) (λ ns. given (tree arities ns))
-  unfolding recordTerm
-  whole-term none =
-      with-fuel (λ fuel enough same. ap (λ (x : Attempt RecordFault (List Node)). _>>=_ x (λ ns. given (tree arities ns))) (sym same ∙ end-turn fuel none))
+-- What is found at the end of a term is the answer for its record.
+pub end-answers :
+    (bytes arities : List ℕ) (found : OneTerm) → oneTerm arities bytes ≡ given found →
+    endFound (length (found .nodes)) (recordEnd (length bytes) (found .behind) (drop (found .behind) bytes)) ≡ recordVerdict (recordTerm arities bytes)
+unfolding recordTerm endFound recordVerdict _>>_ _>>=_
+end-answers bytes arities found is =
+    ap (λ (l : List ℕ). endFound (length (found .nodes)) (recordEnd (length bytes) (found .behind) l)) (sym (term-rest arities bytes found is))
+    ∙ go (recordEnd (length bytes) (found .behind) (found .rest))
+    ∙ ap recordVerdict (sym (given-bind (oneTerm arities bytes) _ found is))
+  where
+    go :
+        (x : Attempt RecordFault (Unit {0})) → endFound (length (found .nodes)) x ≡ recordVerdict (_>>_ x (given (tree arities (found .nodes))))
+    go (given t) = ap Whole (sym (term-nodes arities bytes found is))
+    go (refused f) = refl
 
-  -- A term of which the end is right behind has as many nodes as came.
-  as-many : (t : Term) → recordTerm arities bytes ≡ given t → length bytes ≡ p + 1 → nodes ≡ size t
-  unfolding recordBytes
-  as-many t e end =
-      let read : TermRead arities bytes t = term-read arities bytes t e in
-      let long : length bytes ≡ length (prefix t) + 1 = ap length (read .its-bytes) ∙ length-append (prefix t) (5 ∷ []) in
-      omega (arith, prefix-length t, g .place)
+-- A term that is faulty is a faulty record.
+pub fault-answers : (bytes arities : List ℕ) (f : RecordFault) → oneTerm arities bytes ≡ refused f → recordVerdict (recordTerm arities bytes) ≡ Faulty f
+unfolding recordTerm recordVerdict _>>=_
+fault-answers bytes arities f is = rw is
 
-  -- What is found at the end is the answer.
-  pub term-whole : missing ≡ 0 → endFound nodes (recordEnd (length bytes) p (drop p bytes)) ≡ recordVerdict (recordTerm arities bytes)
-  unfolding endFound recordVerdict _>>_ _>>=_
-  term-whole none = go (recordEnd (length bytes) p (drop p bytes)) refl (whole-term none)
-    where
-      go :
-          (x : Attempt RecordFault (Unit {0})) → recordEnd (length bytes) p (drop p bytes) ≡ x →
-          recordTerm arities bytes ≡ _>>=_ (_>>_ x (given (g .came))) (λ ns. given (tree arities ns)) → endFound nodes x ≡ recordVerdict (recordTerm arities bytes)
-      go (given t) e is = ap Whole (as-many (tree arities (g .came)) is (end-place bytes p (g .within) e)) ∙ ap recordVerdict (sym is)
-      go (refused f) e is = ap recordVerdict (sym is)
+-- What the answer for a term tells of it.
+pub found-ends : (x : Attempt RecordFault OneTerm) (nodes behind : ℕ) → termFound x ≡ term.the-variants.Ends nodes behind →
+    (found : OneTerm) × (x ≡ given found) × (length (found .nodes) ≡ nodes) × (found .behind ≡ behind)
+unfolding termFound
+found-ends (given found) nodes behind e = (found, refl, cc, cc)
+found-ends (refused g) nodes behind e = let z : _≡_ {A = ℕ} 0 1 = cc in absurd (omega arith)
+
+pub found-fault : (x : Attempt RecordFault OneTerm) (f : RecordFault) → termFound x ≡ term.the-variants.Faulty f → x ≡ refused f
+unfolding termFound
+found-fault (given found) f e = let z : _≡_ {A = ℕ} 0 1 = cc in absurd (omega arith)
+found-fault (refused g) f e = cc

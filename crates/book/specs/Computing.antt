@@ -7,8 +7,8 @@ use Rattle.book.specs.Reading.{sideOf, leftAfter, rightAfter, nodeAt, ne
 use Rattle.book.specs.Entries.{nothingRead, withSymbol, withLeft, withRight, withRule}
 use Rattle.book.specs.Placed as places
 use Rattle.book.specs.Meaning.{nodeOf, opensOf, nodesAt, treeAt, aritiesOf, ruleAt, rulesBefore, bookAt, told, meaning}
-use Rattle.book.specs.Record.{faultRefusal, refusalOf, recordNode, recordEnd, nodesFrom, recordTerm, readRecord}
-use Rattle.book.specs.RecordMeaning.{recordMeaning, recordVerdict, nodeFound, endFound}
+use Rattle.book.specs.Record.{faultRefusal, refusalOf, recordNode, recordEnd, nodesFrom, oneTerm, recordTerm, readRecord}
+use Rattle.book.specs.RecordMeaning.{recordMeaning, recordVerdict, termFound, nodeFound, endFound}
 use Rattle.book.specs.Examples.{
   fx-to-gx,
   example1,
@@ -44,7 +44,7 @@ unfolding places.placedFrom places.start places.answer places.placed nodeOf open
 placing = tt
 
 unfoldable records : Unit {0}
-unfolding faultRefusal refusalOf recordNode recordEnd nodesFrom recordTerm readRecord recordMeaning recordVerdict nodeFound endFound
+unfolding faultRefusal refusalOf recordNode recordEnd nodesFrom oneTerm recordTerm readRecord recordMeaning recordVerdict termFound nodeFound endFound
 records = tt
 
 unfoldable examples : Unit {0}

@@ -45,24 +45,34 @@ recordEnd len p (k ∷ b ∷ bytes) = do
   unless (eqb k 5) (AfterTheTerm p)
   refused (AfterTheTerm (p + 1))
 
--- The record's nodes, from the bytes that stand at p on, while `missing` subterms are to come. Each node has two bytes and the
--- end has one, so one more than the record's length is fuel enough.
-unfoldable pub nodesFrom : (fuel : ℕ) (arities : List ℕ) (len missing : ℕ) → List Node → (p : ℕ) → List ℕ → Attempt RecordFault (List Node)
+-- A term that stands at the front of some bytes: its nodes, the place behind them, and the bytes that stand there.
+pub record OneTerm : Type 0 where
+  pub nodes : List Node
+  pub behind : ℕ
+  pub rest : List ℕ
+
+-- Its nodes, from the bytes that stand at p on, while `missing` subterms are to come. Each node has two bytes, so one more than the
+-- record's length is fuel enough.
+unfoldable pub nodesFrom : (fuel : ℕ) (arities : List ℕ) (len missing : ℕ) → List Node → (p : ℕ) → List ℕ → Attempt RecordFault OneTerm
 nodesFrom zero arities len missing ns p bytes = refused (EndedEarly len)
 nodesFrom (suc fuel) arities len missing ns p bytes =
     elim (eqb missing 0) [
-      | true ↦ do
-        recordEnd len p bytes
-        given ns
+      | true ↦ given (record { nodes = ns; behind = p; rest = bytes })
       | false ↦ do
         f ← recordNode (length arities) len (length ns) p bytes
         nodesFrom fuel arities len (pred missing + getD arities f 0) (ns ++ (symbolic f ∷ [])) (p + 2) (drop 2 bytes)
     ]
 
+-- One term, whatever stands behind it.
+unfoldable pub oneTerm : (arities : List ℕ) → List ℕ → Attempt RecordFault OneTerm
+oneTerm arities bytes = nodesFrom (suc (length bytes)) arities (length bytes) 1 [] 0 bytes
+
+-- "one term in prefix order .., then kind 5".
 unfoldable pub recordTerm : (arities : List ℕ) → List ℕ → Attempt RecordFault Term
 recordTerm arities bytes = do
-  ns ← nodesFrom (suc (length bytes)) arities (length bytes) 1 [] 0 bytes
-  given (tree arities ns)
+  found ← oneTerm arities bytes
+  recordEnd (length bytes) (found .behind) (found .rest)
+  given (tree arities (found .nodes))
 
 -- A record read under a book.
 unfoldable pub readRecord : Book → List ℕ → Reply Term

@@ -1,14 +1,18 @@
 -- What the answer of reading a record means: the tree that stands in its bytes, or the first fault with its byte.
 use Prim.Native.Nat.{ℕ}
 use mathlib.Core.List.{List}
+use lib.ListN.{length}
 use Rattle.reply.specs.Reply.{Attempt, given, refused}
 use Rattle.term.specs.Term.{Term, size}
+use Rattle.book.specs.Record.{OneTerm}
 use Rattle.book.specs.Meaning.{treeAt}
 use Rattle.book.specs.declared.RecordFault.{RecordFault}
 use Rattle.book.specs.declared.RecordVerdict.{RecordVerdict}
 use Rattle.book.specs.declared.RecordVerdict.the-variants.{Whole, Faulty}
-use Rattle.book.specs.declared.NodeFound as found
-use Rattle.book.specs.declared.NodeFound.{NodeFound}
+use Rattle.book.specs.declared.records.TermFound as term
+use Rattle.book.specs.declared.records.TermFound.{TermFound}
+use Rattle.book.specs.declared.records.NodeFound as found
+use Rattle.book.specs.declared.records.NodeFound.{NodeFound}
 
 -- The term is the tree of so many nodes from the record's start on, over the declared symbols.
 unfoldable pub recordMeaning : (bytes arities : List ℕ) → RecordVerdict → Attempt RecordFault Term
@@ -20,7 +24,11 @@ unfoldable pub recordVerdict : Attempt RecordFault Term → RecordVerdict
 recordVerdict (given t) = Whole (size t)
 recordVerdict (refused fault) = Faulty fault
 
--- The answer for one node, and for the end behind so many.
+-- The answer for one term, for one node, and for the end behind so many.
+unfoldable pub termFound : Attempt RecordFault OneTerm → TermFound
+termFound (given found) = term.the-variants.Ends (length (found .nodes)) (found .behind)
+termFound (refused fault) = term.the-variants.Faulty fault
+
 unfoldable pub nodeFound : Attempt RecordFault ℕ → NodeFound
 nodeFound (given symbol) = found.the-variants.Symbol symbol
 nodeFound (refused fault) = found.the-variants.Faulty fault

@@ -1,9 +1,13 @@
 // Reading books and records. The definitions stand in specs/.
 mod checks;
+mod records;
 mod sides;
 
 use checks::Checked;
 use checks::check_record;
+use records::TermFound;
+use records::end_at;
+use records::read_term;
 use reply::Refusal;
 use sides::SideAfter;
 use sides::Stage;
@@ -11,13 +15,13 @@ use sides::no_side;
 use sides::open_side;
 use sides::with_node;
 ghost use mathlib.Core.Path.{_≡_};
-ghost use Prim.Native.Nat.{ℕ, _<_, min};
-ghost use lib.ListN.{length, getD, take, drop};
+ghost use Prim.Native.Nat.{_<_};
+ghost use lib.ListN.{getD, take};
 ghost use Rattle.reply.specs.Reply.{refused};
 ghost use Rattle.book.specs.Reading.{readBook};
-ghost use Rattle.book.specs.Record.{faultRefusal, recordNode, recordEnd, recordTerm};
-ghost use Rattle.book.specs.RecordMeaning.{recordMeaning, recordVerdict, nodeFound, endFound};
-ghost use Rattle.book.specs.Meaning.{nodeOf, meaning, opensOf};
+ghost use Rattle.book.specs.Record.{faultRefusal, recordTerm};
+ghost use Rattle.book.specs.RecordMeaning.{recordMeaning, recordVerdict};
+ghost use Rattle.book.specs.Meaning.{opensOf, meaning};
 ghost use Rattle.book.specs.Entries.{nothingRead};
 ghost use Rattle.book.specs.Placed.{ended, answer, placed};
 
@@ -187,82 +191,14 @@ pub fn record_refusal(fault: RecordFault) -> Refusal
     }
 }
 
-// One node of a record: its symbol, or what is wrong with it.
-enum NodeFound {
-    Symbol(usize),
-    Faulty(RecordFault),
-}
-
-// How many symbols a table of 16 arities declares.
-fn in_table(symbols: usize) -> usize
-    ensures { λ r. ⌜ r ≡ min symbols 16 ⌝ }
-{
-    if symbols < 16 { symbols } else { 16 }
-}
-
-// The node at this place, behind `nodes` others: "kind 3 nodes only .., at most 256 nodes", of a declared symbol.
-fn node_at(bytes: &[u8], at: usize, nodes: usize, symbols: usize) -> NodeFound
-    ensures { λ r. ⌜ r ≡ nodeFound (recordNode symbols (length (now (bytes .entry))) nodes at (drop at (now (bytes .entry)))) ⌝ }
-{
-    let len = bytes.len();
-    if len <= at {
-        return NodeFound::Faulty(RecordFault::EndedEarly(len));
-    }
-    let kind = bytes[at];
-    if kind != 3 {
-        return NodeFound::Faulty(RecordFault::WrongKind(at));
-    }
-    if len - at - 1 < term::body_length(kind) {
-        return NodeFound::Faulty(RecordFault::EndedEarly(len));
-    }
-    let symbol = wide(bytes[at + 1]);
-    if symbols <= symbol {
-        return NodeFound::Faulty(RecordFault::NotDeclared(at + 1));
-    }
-    if 256 <= nodes {
-        return NodeFound::Faulty(RecordFault::TooManyNodes(at));
-    }
-    NodeFound::Symbol(symbol)
-}
-
-// "then kind 5" and nothing more, behind a whole term of so many nodes.
-fn end_at(bytes: &[u8], at: usize, nodes: usize) -> RecordVerdict
-    ensures { λ r. ⌜ r ≡ endFound nodes (recordEnd (length (now (bytes .entry))) at (drop at (now (bytes .entry)))) ⌝ }
-{
-    let len = bytes.len();
-    if len <= at {
-        return RecordVerdict::Faulty(RecordFault::EndedEarly(len));
-    }
-    if bytes[at] != 5 {
-        return RecordVerdict::Faulty(RecordFault::AfterTheTerm(at));
-    }
-    if at + 1 < len {
-        return RecordVerdict::Faulty(RecordFault::AfterTheTerm(at + 1));
-    }
-    RecordVerdict::Whole(nodes)
-}
-
-// Reads a record to be run: its nodes from left to right while a subterm is missing, then its end.
+// Reads a record to be run: one term, then its end.
 pub fn read_record(bytes: &[u8], symbols: usize, arities: [u8; 16]) -> RecordVerdict
     ensures settled { λ r. ⌜ r ≡ recordVerdict (recordTerm (take symbols arities) (now (bytes .entry))) ⌝ }
     ensures means { λ r. ⌜ recordMeaning (now (bytes .entry)) (take symbols arities) r ≡ recordTerm (take symbols arities) (now (bytes .entry)) ⌝ }
 {
-    let declared = in_table(symbols);
-    let mut missing: usize = 1;
-    let mut nodes: usize = 0;
-    let mut at: usize = 0;
-    while 0 < missing {
-        let found = node_at(bytes, at, nodes, declared);
-        match found {
-            NodeFound::Faulty(fault) => {
-                return RecordVerdict::Faulty(fault);
-            }
-            NodeFound::Symbol(symbol) => {
-                missing = missing - 1 + wide(arities[symbol]);
-                nodes += 1;
-                at += 2;
-            }
-        }
+    let found = read_term(bytes, symbols, arities);
+    match found {
+        TermFound::Faulty(fault) => RecordVerdict::Faulty(fault),
+        TermFound::Ends { nodes, behind } => end_at(bytes, behind, nodes),
     }
-    end_at(bytes, at, nodes)
 }

@@ -7,6 +7,14 @@ use Rattle.term.specs.Prefix.{prefix, recordBytes, arityOf, onto, trees,
 use Rattle.term.specs.Replacement.{replace}
 use Rattle.term.specs.Copied.{copied}
 
+unfoldable tables : Unit {0}
+unfolding kindOf bodyLengths bodyLength rankBitsTable rankBits
+tables = tt
+
+unfoldable terms : Unit {0}
+unfolding size count listed args same over variableFree arguments prefix recordBytes arityOf onto trees tree replace copied
+terms = tt
+
 unfoldable pub computing : Unit {0}
-unfolding Computing.computing kindOf bodyLengths bodyLength rankBitsTable rankBits size count listed args same over variableFree arguments prefix recordBytes arityOf onto trees tree replace copied
+unfolding Computing.computing tables terms
 computing = tt

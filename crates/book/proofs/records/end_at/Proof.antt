@@ -1,11 +1,11 @@
--- `book::end_at` meets its contract: each return is what the bytes at the place say. Assumes nothing.
+-- `book::records::end_at` meets its contract: each return is what the bytes at the place say. Assumes nothing.
 use mathlib.Core.Path.{sym, ap}
 use native.Mathlib.Omega.{arith}
 use borrow.Author.Needs.{needs}
 use Rattle.book.specs.RecordMeaning.{endFound}
 use Rattle.book.proofs.RecordSteps.{no-end, other-end, behind-end, end-given}
-use Rattle.book.proofs.end_at.Statement.{statement}
-use Rattle.book.proofs.end_at.Tie as tie
+use Rattle.book.proofs.records.end_at.Statement.{statement}
+use Rattle.book.proofs.records.end_at.Tie as tie
 
 returns : tie.Need-returns
 unfolding endFound
@@ -18,11 +18,8 @@ returns-2 : tie.Need-returns-2
 unfolding endFound
 returns-2 c = let a = c .before .before .before .args in ap (endFound (a .nodes)) (sym (other-end (a .bytes .now) (a .at) (omega arith) (c .if2 .taken)))
 
-add-if3 : tie.Need-add-if3
-add-if3 c = search needs
-
-add-t11 : tie.Need-add-t11
-add-t11 c = search needs
+add-behind : tie.Need-add-behind
+add-behind c = search needs
 
 returns-3 : tie.Need-returns-3
 unfolding endFound
@@ -33,4 +30,4 @@ unfolding endFound
 returns-4 c = let a = c .before .before .before .before .args in ap (endFound (a .nodes)) (sym (end-given (a .bytes .now) (a .at) (omega arith) (c .before .if2 .left) (c .if3 .left)))
 
 pub end-at-spec : {M : Type 1} → statement M
-end-at-spec = tie.close (tie.spec returns shared-slice-read-if2 returns-2 add-if3 add-t11 returns-3 returns-4)
+end-at-spec = tie.close (tie.spec returns shared-slice-read-if2 returns-2 add-behind returns-3 returns-4)

@@ -1,4 +1,4 @@
--- `book::node_at` meets its contract: each return is what the tests of the bytes at the place say. Assumes nothing.
+-- `book::records::node_at` meets its contract: each return is what the tests of the bytes at the place say. Assumes nothing.
 use Prim.Native.Nat.{_+_, _≤_}
 use mathlib.Core.Path.{sym, ap, _∙_}
 use native.Mathlib.Omega.{arith}
@@ -6,10 +6,10 @@ use borrow.Author.Needs.{needs}
 use lib.ListN.{length, getD}
 use Rattle.term.specs.Tables.{bodyLength, bodyLengths}
 use Rattle.book.specs.RecordMeaning.{nodeFound}
-use Rattle.book.specs.declared.NodeFound.the-variants.{Symbol}
+use Rattle.book.specs.declared.records.NodeFound.the-variants.{Symbol}
 use Rattle.book.proofs.RecordSteps.{no-node, wrong-kind, node-cut, not-declared, too-many, node-given}
-use Rattle.book.proofs.node_at.Statement.{statement}
-use Rattle.book.proofs.node_at.Tie as tie
+use Rattle.book.proofs.records.node_at.Statement.{statement}
+use Rattle.book.proofs.records.node_at.Tie as tie
 
 returns : tie.Need-returns
 unfolding nodeFound
