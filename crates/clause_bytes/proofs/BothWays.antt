@@ -6,7 +6,7 @@ use mathlib.Core.Path.{_≡_, refl, ap, sym, _∙_}
 use native.Mathlib.Omega.{arith}
 use lib.ListN.{length, take, length-take}
 use Rattle.clauses.specs.Cnf.{Literal, is, isNot}
-use Rattle.clauses.specs.Blocks.{allParts, someParts}
+use Rattle.clauses.specs.Wholes.{allParts, someParts}
 use Rattle.clauses.specs.File.{literalBytes, clauseBytes}
 use Rattle.clause_bytes.specs.Meaning.{partsIn, against, partClauses, bothWays}
 use Rattle.clause_bytes.specs.declared.parts.Parts.{Parts}

@@ -7,7 +7,7 @@ use crate::writing::write_clause_of_two;
 ghost use Prim.Native.Nat.{_≤_};
 ghost use mathlib.Core.List.{flatMap, map};
 ghost use mathlib.Core.Path.{_≡_};
-ghost use Rattle.clauses.specs.Blocks.{allParts, someParts};
+ghost use Rattle.clauses.specs.Wholes.{allParts, someParts};
 ghost use Rattle.clauses.specs.File.{clauseBytes};
 ghost use Rattle.text.specs.Laying.{Lays};
 ghost use Rattle.clause_bytes.specs.Meaning.{meant, partsIn, against, partClauses, bothWays};

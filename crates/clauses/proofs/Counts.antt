@@ -16,6 +16,7 @@ use Rattle.book.specs.Limits.{WithinLimits}
 use Rattle.clauses.specs.Cnf.{Clause}
 use Rattle.clauses.specs.Numbering.{firstBase, baseAfter, numbers}
 use Rattle.clauses.specs.Blocks.{pairBlocksOf, pairBlocks, subterms, Setting, nodeBlock, ruleBlocks, rulesBlocks, blocks}
+use Rattle.clauses.proofs.Lists.{numbers-length}
 use Rattle.clauses.proofs.Inside.{subterms-counted}
 use Rattle.clauses.proofs.EachBlock.{setting}
 use Rattle.clauses.proofs.Weights.{weight, block-weights}
@@ -40,11 +41,6 @@ unfolding flatMap
 flatMap-length f m h [] = omega arith
 flatMap-length f m h (x ∷ xs) = rw (length-append, suc-mul) (omega (arith, h x, flatMap-length f m h xs))
 
-numbers-counted : (first count : ℕ) → length (numbers first count) ≡ count
-unfolding numbers
-numbers-counted first zero = refl
-numbers-counted first (suc count) = ap suc (numbers-counted (suc first) count)
-
 pair-blocks-of-counted : (n k f : ℕ) (others : List ℕ) → length (pairBlocksOf n k f others) ≤ length others
 unfolding pairBlocksOf
 pair-blocks-of-counted n k f [] = omega arith
@@ -57,9 +53,9 @@ pair-blocks-of-counted n k f (g ∷ others) = go (eqb f g) refl (pair-blocks-of-
 pair-blocks-counted : (n k : ℕ) → length (pairBlocks n k) ≤ n * n
 unfolding pairBlocks
 pair-blocks-counted n k =
-    rw numbers-counted at
+    rw numbers-length at
     (flatMap-length (λ f. pairBlocksOf n k f (numbers 0 n)) n
-    (λ f. omega (arith, pair-blocks-of-counted n k f (numbers 0 n), numbers-counted 0 n)) (numbers 0 n))
+    (λ f. omega (arith, pair-blocks-of-counted n k f (numbers 0 n), numbers-length 0 n)) (numbers 0 n))
 
 rule-blocks-counted : (c : Setting) (rule : Rule) → Small rule → length (ruleBlocks c rule) ≤ 101
 unfolding ruleBlocks

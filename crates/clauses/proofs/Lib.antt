@@ -4,6 +4,7 @@ pub mod Subterms
 pub mod Inside
 pub mod Numbers
 pub mod Equations
+pub mod Wholes
 pub mod PairsSatisfied
 pub mod Satisfied
 pub mod Larger

@@ -12,7 +12,8 @@ use Rattle.reply.proofs.Tests.{differ}
 use Rattle.term.specs.Term.{Term, var, app, size, over, same}
 use Rattle.clauses.specs.Cnf.{Literal, is, isNot}
 use Rattle.clauses.specs.Numbering.{G}
-use Rattle.clauses.specs.Blocks.{Numbered, numberedArgs, Setting, CAt, DAt, partsBehind, partsOfD, partsOfC, someIdentical, allParts, someParts, nodeBlock, clausesOfC}
+use Rattle.clauses.specs.Blocks.{Numbered, numberedArgs, Setting, CAt, DAt, partsBehind, partsOfD, partsOfC, someIdentical, nodeBlock, clausesOfC}
+use Rattle.clauses.specs.Wholes.{allParts, someParts}
 use Rattle.clauses.proofs.Items.{Within, variableOf, Over}
 use Rattle.clauses.proofs.Inside.{Inside, arguments-inside, size-positive, symbol-declared, arguments-over}
 

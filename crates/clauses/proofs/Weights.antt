@@ -16,7 +16,8 @@ use Rattle.book.specs.Book.{Book, symbols}
 use Rattle.book.specs.Limits.{WithinLimits}
 use Rattle.clauses.specs.Cnf.{Literal, is, isNot, Clause}
 use Rattle.clauses.specs.Numbering.{numbers}
-use Rattle.clauses.specs.Blocks.{pairClauses, pairBlock, Numbered, numberedArgs, Setting, CAt, DAt, partsBehind, partsOfD, partsOfC, someIdentical, allParts, someParts, nodeBlock, blocks, lowestBit, higherBit, clausesOfC}
+use Rattle.clauses.specs.Blocks.{pairClauses, pairBlock, Numbered, numberedArgs, Setting, CAt, DAt, partsBehind, partsOfD, partsOfC, someIdentical, nodeBlock, blocks, lowestBit, higherBit, clausesOfC}
+use Rattle.clauses.specs.Wholes.{allParts, someParts}
 use Rattle.clauses.proofs.Inside.{Inside, arity-kept, symbol-declared, arguments-counted}
 use Rattle.clauses.proofs.EachBlock.{setting, each-block}
 

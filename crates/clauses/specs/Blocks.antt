@@ -9,6 +9,7 @@ use Rattle.book.specs.Book.{Book, Rule, symbols}
 use Rattle.order.specs.Test.{someArg}
 use Rattle.clauses.specs.Cnf.{Literal, is, isNot, Clause}
 use Rattle.clauses.specs.Numbering.{bit, G, firstBase, baseAfter, C, D, numbers}
+use Rattle.clauses.specs.Wholes.{allParts, someParts}
 
 -- "for j = 1 (−G a)(−G −b)(G −a b)"
 unfoldable pub lowestBit : (g₁ a b : ℕ) → List Clause
@@ -106,15 +107,6 @@ partsOfC c u v (app f ss) = map (λ (sᵢ : Numbered). CAt c (sᵢ .node) v) (nu
 unfoldable pub someIdentical : (s t : Term) → Bool
 someIdentical (var x) t = false
 someIdentical (app f ss) t = someArg (λ sᵢ. same sᵢ t) ss
-
--- The whole exactly if all parts: "(−D qi) for each i, then (D −q1 .. −qp)"; with no parts "(−D)".
-unfoldable pub allParts : (whole : ℕ) (parts : List ℕ) → List Clause
-allParts whole [] = (isNot whole ∷ []) ∷ []
-allParts whole (q ∷ qs) = map (λ q′. isNot whole ∷ is q′ ∷ []) (q ∷ qs) ++ ((is whole ∷ map isNot (q ∷ qs)) ∷ [])
-
--- The whole exactly if some part: "(C −part) for each, then (−C part1 .. )".
-unfoldable pub someParts : (whole : ℕ) (parts : List ℕ) → List Clause
-someParts whole parts = map (λ q. is whole ∷ isNot q ∷ []) parts ++ ((isNot whole ∷ map is parts) ∷ [])
 
 -- C's clauses: "If some si is identical to t: (C). Otherwise its parts are C(si,t) for each i, then D".
 unfoldable pub clausesOfC : Setting → (u v : ℕ) (s t : Term) → List Clause

@@ -1,5 +1,6 @@
 pub mod Cnf
 pub mod Numbering
+pub mod Wholes
 pub mod Blocks
 pub mod File
 pub mod Item

@@ -8,7 +8,8 @@ use lib.ListN.{length, length-append, length-map}
 use Rattle.term.specs.Term.{Term}
 use Rattle.clauses.specs.Cnf.{is, isNot}
 use Rattle.clauses.specs.Numbering.{D}
-use Rattle.clauses.specs.Blocks.{Setting, CAt, DAt, partsOfD, partsOfC, someIdentical, allParts, someParts, clausesOfC, nodeBlock}
+use Rattle.clauses.specs.Blocks.{Setting, CAt, DAt, partsOfD, partsOfC, someIdentical, clausesOfC, nodeBlock}
+use Rattle.clauses.specs.Wholes.{allParts, someParts}
 use Rattle.clauses.specs.File.{clauseBytes}
 use Rattle.rule_blocks.specs.Nodes.{nodesBlock}
 use Rattle.clauses.proofs.Lists.{flatMap-append}
