@@ -1,2 +1,3 @@
 pub mod RightSide
 pub mod LaidDown
+pub mod Settled

@@ -28,7 +28,7 @@ pub struct Place {
 }
 
 // How many bytes the right side from right_at to right_end has under the match.
-pub fn grown(
+pub fn right_length(
     book: &[u8],
     right_at: usize,
     right_end: usize,

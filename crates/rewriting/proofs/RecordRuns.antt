@@ -19,7 +19,8 @@ use Rattle.term.proofs.PrefixAt.{prefix-length, at-prefix, at-over, prefix-at}
 use Rattle.term.proofs.Copied.{copied-whole}
 use Rattle.book.specs.Book.{Rule}
 use Rattle.steps.specs.Run.{Ran, runFrom, ranBytes}
-use Rattle.rewriting.specs.Turns.{held, TermIn, outcomeOf, RunTo}
+use Rattle.rewriting.specs.Turns.{held, TermIn, RunTo}
+use Rattle.stepping.specs.Stepped.{outcomeOf}
 use Rattle.rewriting.specs.RunMeaning.{Told, toldOf, runTold, runMeaning, RunsTo}
 use Rattle.rewriting.specs.declared.running.Reached.{Reached}
 use Rattle.rewriting.specs.declared.running.RunReply.{RunReply}

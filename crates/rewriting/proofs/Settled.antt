@@ -16,7 +16,7 @@ use Rattle.rewriting.specs.Asked.{argumentMeaning}
 use Rattle.rewriting.specs.declared.asking.ArgumentReply.{ArgumentReply}
 use Rattle.rewriting.specs.declared.asking.ArgumentReply.the-variants.{Found, Refused}
 use Rattle.steps.specs.Run.{Outcome, done, spent, tooLarge}
-use Rattle.rewriting.specs.Turns.{outcomeOf}
+use Rattle.stepping.specs.Stepped.{outcomeOf}
 use Rattle.rewriting.specs.RunMeaning.{Told, runMeaning}
 use Rattle.stepping.specs.declared.Outcome.{Outcome as Ending}
 use Rattle.stepping.specs.declared.Outcome.the-variants.{Done, Spent, TooLarge}

@@ -14,9 +14,10 @@ use Rattle.term.specs.Term.{Term, size}
 use Rattle.term.specs.At.{At}
 use Rattle.term.proofs.At.{at-end}
 use Rattle.book.specs.Book.{Rule}
-use Rattle.steps.specs.Run.{Ran, done, spent, tooLarge, runFrom}
-use Rattle.stepping.specs.Stepped.{EndsAt, NextIn, Tells}
-use Rattle.rewriting.specs.Turns.{held, TermIn, Holding, Turned, outcomeOf, RunTo}
+use Rattle.steps.specs.Run.{Means, runFrom}
+use Rattle.stepping.specs.Stepped.{NextIn, Tells}
+use Rattle.rewriting.specs.Turns.{held, TermIn, Holding, Turned, RunTo}
+use Rattle.stepping.specs.Stepped.{outcomeOf}
 use Rattle.stepping.specs.declared.Outcome.{Outcome}
 use Rattle.stepping.specs.declared.Outcome.the-variants.{Done, Spent, TooLarge}
 use Rattle.stepping.specs.declared.Stepped.{Stepped}
@@ -95,11 +96,11 @@ module _
       }
 
   -- The outcome of a run that ends here.
-  ends : (outcome : Outcome) → EndsAt outcome rules (onward .term) (budget - steps) → runFrom rules (budget - steps) steps (onward .term) ≡ record { outcome = outcomeOf outcome; steps = steps; reached = onward .term }
-  unfolding EndsAt outcomeOf
+  ends : (outcome : Outcome) → Means (outcomeOf outcome) rules (budget - steps) 0 (onward .term) → runFrom rules (budget - steps) steps (onward .term) ≡ record { outcome = outcomeOf outcome; steps = steps; reached = onward .term }
+  unfolding Means outcomeOf
   ends Done h = run-done rules steps (onward .term) (budget - steps) h
   ends Spent (none-left, (next, isNext)) =
-      ap (λ (b : ℕ). runFrom rules b steps (onward .term)) none-left ∙ run-spent rules steps (onward .term) next isNext
+      ap (λ (b : ℕ). runFrom rules b steps (onward .term)) (sym none-left) ∙ run-spent rules steps (onward .term) next isNext
   ends TooLarge (remain, (next, isNext, large)) =
       let one-less : budget - steps ≡ suc (budget - (steps + 1)) = omega arith in
       ap (λ (b : ℕ). runFrom rules b steps (onward .term)) one-less

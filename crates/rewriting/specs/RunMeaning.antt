@@ -10,7 +10,7 @@ use Rattle.term.specs.Term.{Term}
 use Rattle.term.specs.Prefix.{recordBytes}
 use Rattle.term.specs.At.{At}
 use Rattle.steps.specs.Run.{Outcome, Ran, ranBytes}
-use Rattle.rewriting.specs.Turns.{outcomeOf}
+use Rattle.stepping.specs.Stepped.{outcomeOf}
 use Rattle.rewriting.specs.declared.running.RunReply.{RunReply}
 use Rattle.rewriting.specs.declared.running.RunReply.the-variants.{RanTo, Refused}
 

@@ -7,10 +7,8 @@ use lib.ListN.{length, take}
 use Rattle.term.specs.Term.{Term}
 use Rattle.term.specs.At.{At}
 use Rattle.book.specs.Book.{Rule}
-use Rattle.steps.specs.Run.{Outcome, done, spent, tooLarge, Ran, runFrom}
-use Rattle.stepping.specs.Stepped.{Tells}
-use Rattle.stepping.specs.declared.Outcome.{Outcome as Ending}
-use Rattle.stepping.specs.declared.Outcome.the-variants.{Done, Spent, TooLarge}
+use Rattle.steps.specs.Run.{runFrom}
+use Rattle.stepping.specs.Stepped.{outcomeOf, Tells}
 use Rattle.stepping.specs.declared.Stepped.{Stepped}
 use Rattle.rewriting.specs.declared.running.Reached.{Reached}
 
@@ -37,12 +35,6 @@ pub record Turned
     Type 0 where
   pub kept : held inOne one′ other′ ≡ held inOne one other
   pub tells : Tells answer arities rules t left (held (not inOne) one other) (held (not inOne) one′ other′)
-
--- The outcome on paper.
-unfoldable pub outcomeOf : Ending → Outcome
-outcomeOf Done = done
-outcomeOf Spent = spent
-outcomeOf TooLarge = tooLarge
 
 -- Where a run of t came to: the answer's outcome and steps are the run's, and the term reached stands in the buffer that holds it.
 pub record RunTo (arities : List ℕ) (rules : List Rule) (t : Term) (budget : ℕ) (one other : List ℕ) (reached : Reached) : Type 0 where

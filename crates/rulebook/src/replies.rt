@@ -13,7 +13,7 @@ ghost use Rattle.blocks.specs.Written.{writtenMeaning};
 ghost use Rattle.answer.specs.Answered.{answeredMeaning};
 ghost use Rattle.rewriting.specs.Asked.{unreadable, argumentMeaning};
 ghost use Rattle.rewriting.specs.RunMeaning.{runMeaning};
-ghost use Rattle.rewriting.specs.Turns.{outcomeOf};
+ghost use Rattle.stepping.specs.Stepped.{outcomeOf};
 ghost use Rattle.rulebook.specs.Replies.{verdictReply, bookReply, writtenReply, outcomeNumber, ranReply, partReply};
 
 #[repr(C)]

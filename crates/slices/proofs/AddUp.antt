@@ -25,7 +25,7 @@ use Rattle.steps.specs.Step.{stepOf}
 use Rattle.steps.specs.Run.{Outcome, done, spent, tooLarge, Ran, runFrom, ranCleared, run, ranBytes}
 use Rattle.rewriting.specs.RunMeaning.{Told, toldOf, runTold, runMeaning, RunsTo}
 use Rattle.rewriting.specs.Asked.{unreadable}
-use Rattle.rewriting.specs.Turns.{outcomeOf}
+use Rattle.stepping.specs.Stepped.{outcomeOf}
 use Rattle.rewriting.specs.declared.running.RunReply.{RunReply}
 use Rattle.rewriting.specs.declared.running.RunReply.the-variants.{RanTo, Unreadable, WrongCount, NotDecreasing, Malformed, ShortBuffer}
 use Rattle.stepping.specs.declared.Outcome.the-variants.{Done, Spent, TooLarge}

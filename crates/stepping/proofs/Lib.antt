@@ -5,3 +5,4 @@ pub mod RulesAt
 pub mod RuleByRule
 pub mod Looking
 pub mod OneStep
+pub mod Settled

@@ -22,7 +22,7 @@ use Rattle.term.proofs.PrefixAt.{at-prefix}
 use Rattle.book.specs.Book.{Rule}
 use Rattle.steps.specs.Step.{ruleOf, chosen, applied, stepOf}
 use Rattle.steps.proofs.Chosen.{chosen-rewrites, none-rewritten}
-use Rattle.stepping.specs.Places.{Applies, FirstRule, StepAt, FirstPlace}
+use Rattle.stepping.specs.FirstPlace.{Applies, FirstRule, StepAt, FirstPlace}
 use Rattle.building.specs.declared.Fit.{Fit}
 use Rattle.building.specs.declared.Place.{Place}
 use Rattle.steps.proofs.StepBytes.{rootBytes, insideOr, termBytes, forestBytes, root-passed, root-rewritten, alone}

@@ -17,7 +17,7 @@ use Rattle.book.specs.Book.{Rule}
 use Rattle.book.specs.declared.Book.{Book as Places}
 use Rattle.steps.specs.Fits.{matching}
 use Rattle.steps.specs.Step.{ruleOf, applied, stepOf}
-use Rattle.stepping.specs.Places.{StepAt}
+use Rattle.stepping.specs.FirstPlace.{StepAt}
 use Rattle.building.specs.Right.{Held, RightAt, Within, Built}
 use Rattle.stepping.specs.Stepped.{NextIn}
 use Rattle.building.specs.declared.Place.{Place}

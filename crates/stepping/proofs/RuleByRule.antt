@@ -14,7 +14,7 @@ use Rattle.book.specs.Book.{Rule}
 use Rattle.steps.specs.Fits.{fits}
 use Rattle.steps.specs.Step.{ruleOf, chosen}
 use Rattle.stepping.specs.Table.{Holds}
-use Rattle.stepping.specs.Places.{Applies, FirstRule}
+use Rattle.stepping.specs.FirstPlace.{Applies, FirstRule}
 use Rattle.building.specs.declared.Match.{Match}
 use Rattle.building.specs.declared.Fit.{Fit}
 use Rattle.steps.proofs.Chosen.{front-chosen, later-chosen}

@@ -15,7 +15,8 @@ use Rattle.book.specs.declared.Book.{Book as Places}
 use Rattle.book.proofs.WasRead.{read-stands, read-limits, left-limits, right-limits}
 use Rattle.steps.specs.Step.{NoNewVariable, ruleOf}
 use Rattle.steps.proofs.StaysOver.{rule-member}
-use Rattle.stepping.specs.Places.{rulesIn, Runnable, LeftsAt}
+use Rattle.stepping.specs.Runnable.{rulesIn, Runnable}
+use Rattle.stepping.specs.FirstPlace.{LeftsAt}
 
 -- Where the right side of rule i ends, two bytes a node.
 abbrev pub rightEnd : Places → (i : ℕ) → ℕ

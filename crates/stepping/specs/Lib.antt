@@ -1,4 +1,5 @@
 pub mod Alike
 pub mod Table
-pub mod Places
+pub mod Runnable
+pub mod FirstPlace
 pub mod Stepped

@@ -4,13 +4,14 @@ mod placing;
 
 use book::Book;
 use building::build;
-use building::grown;
+use building::right_length;
 use placing::first_place;
 ghost use Prim.Native.Nat.{_≤_};
 ghost use lib.ListN.{length};
 ghost use Rattle.term.specs.Term.{Term};
 ghost use Rattle.term.specs.At.{At};
-ghost use Rattle.stepping.specs.Places.{rulesIn, Runnable, Whole};
+ghost use Rattle.stepping.specs.Runnable.{rulesIn, Runnable};
+ghost use Rattle.stepping.specs.FirstPlace.{Whole};
 ghost use Rattle.stepping.specs.Stepped.{Tells};
 
 // How a run ends.
@@ -47,7 +48,7 @@ pub fn step(book: &[u8], places: Book, bytes: &[u8], left: u64, out: &mut [u8]) 
     let right = places.right_at[rule];
     let end = right + 2 * places.right_nodes[rule];
     let length = place.at
-        + grown(book, right, end, bytes, arities, table)
+        + right_length(book, right, end, bytes, arities, table)
         + (bytes.len() - place.end);
     if 512 < length {
         return Stepped::Ended(Outcome::TooLarge);

@@ -12,7 +12,8 @@ ghost use Rattle.term.specs.Term.{Term};
 ghost use Rattle.term.specs.At.{At, Standing};
 ghost use Rattle.book.specs.Book.{Rule};
 ghost use Rattle.book.specs.WasRead.{ReadFrom};
-ghost use Rattle.stepping.specs.Places.{rulesIn, LeftsAt, Lefts, Whole, FirstRule, FirstPlace};
+ghost use Rattle.stepping.specs.Runnable.{rulesIn};
+ghost use Rattle.stepping.specs.FirstPlace.{LeftsAt, Lefts, Whole, FirstRule, FirstPlace};
 
 // The rule with the lowest number that fits the subterm at this place. The places of the left sides are lent: a read book by value
 // would be copied for every place that is tried.

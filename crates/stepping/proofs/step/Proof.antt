@@ -13,11 +13,13 @@ use Rattle.term.specs.Replacement.{replace}
 use Rattle.term.specs.Prefix.{prefix}
 use Rattle.term.specs.At.{At}
 use Rattle.book.specs.Book.{Rule}
-use Rattle.stepping.specs.Places.{rulesIn, StepAt}
+use Rattle.stepping.specs.Runnable.{rulesIn}
+use Rattle.stepping.specs.FirstPlace.{StepAt}
 use Rattle.steps.specs.Step.{ruleOf}
+use Rattle.steps.specs.Run.{Means}
 use Rattle.building.specs.Right.{Within}
 use Rattle.building.specs.declared.Place.{Place}
-use Rattle.stepping.specs.Stepped.{EndsAt, Tells}
+use Rattle.stepping.specs.Stepped.{outcomeOf, Tells}
 use Rattle.stepping.proofs.RulesAt.{rightEnd, RulesAt, rules-stand}
 use Rattle.stepping.proofs.OneStep.{rule-small, right-within, under-match, right-held, right-stands, right-there, place-within, made-few, next-length, next-in}
 use Rattle.stepping.proofs.step.Statement.{statement}
@@ -27,7 +29,7 @@ first-place-requires : tie.Need-first-place-requires
 first-place-requires c κs = search needs
 
 returns : tie.Need-returns
-unfolding Tells EndsAt
+unfolding Tells Means outcomeOf
 returns c t k =
     (c .before .before .first-place .ensures t k .nowhere (not-true (c .before .before .first-place .result .fit .table .fits) (c .if1 .taken)), refl)
 
@@ -58,8 +60,8 @@ module _ (c : tie.Else1) where
   end-there = right-within stand here
 
 returns-2 : tie.Need-returns-2
-unfolding Tells EndsAt
-returns-2 c t k = let at-place = step-at (c .before) k in ((c .if2 .taken, (at-place .next, at-place .isNext)), refl)
+unfolding Tells Means outcomeOf
+returns-2 c t k = let at-place = step-at (c .before) k in ((sym (c .if2 .taken), (at-place .next, at-place .isNext)), refl)
 
 mul-right : tie.Need-mul-right
 mul-right c = omega (arith, small (c .before .before .before))
@@ -79,13 +81,13 @@ mul-end-2 c = omega (arith, end-there (c .before .before .before .before .before
 add-end : tie.Need-add-end
 add-end c = omega (arith, end-there (c .before .before .before .before .before))
 
-grown-requires : tie.Need-grown-requires
-grown-requires c κs =
+right-length-requires : tie.Need-right-length-requires
+right-length-requires c κs =
     let fits = c .before .before .before .before .before in
     (right-there (stand fits) (here fits), start fits .pre .1 .1 .0)
 
 -- The count of the right side's bytes gives the next term's.
-module _ (c : tie.After-grown) where
+module _ (c : tie.After-right-length) where
   abbrev fitting : tie.Else1
   fitting = c .before .before .before .before .before .before
 
@@ -97,18 +99,18 @@ module _ (c : tie.After-grown) where
     abbrev at-place : StepAt (now (start fitting .args .bytes)) (start fitting .args .t2 .arities) (rules fitting) t place
     at-place = step-at fitting k
 
-    counted : c .grown .result ≡ length (prefix (replace (under-match (stand fitting) at-place) (ruleOf (rules fitting) (place .fit .rule) .right)))
+    counted : c .right-length .result ≡ length (prefix (replace (under-match (stand fitting) at-place) (ruleOf (rules fitting) (place .fit .rule) .right)))
     counted =
-        c .grown .ensures (ruleOf (rules fitting) (place .fit .rule) .right) (under-match (stand fitting) at-place) (right-stands (stand fitting) at-place)
+        c .right-length .ensures (ruleOf (rules fitting) (place .fit .rule) .right) (under-match (stand fitting) at-place) (right-stands (stand fitting) at-place)
         (right-held (stand fitting) at-place)
 
-    next-counted : 2 * size (at-place .next) ≡ place .at + c .grown .result + (length (now (start fitting .args .bytes)) - place .end)
+    next-counted : 2 * size (at-place .next) ≡ place .at + c .right-length .result + (length (now (start fitting .args .bytes)) - place .end)
     next-counted = omega (arith, next-length (stand fitting) at-place, counted)
 
   within : Within (now (start fitting .args .bytes)) place
   within = place-within (stand fitting) (here fitting)
 
-  few : c .grown .result ≤ 5120
+  few : c .right-length .result ≤ 5120
   few =
       omega (
         arith,
@@ -127,8 +129,8 @@ sub-length c = within (c .before .before) .inside
 
 add-length-2 : tie.Need-add-length-2
 add-length-2 c =
-    let grown = c .before .before in
-    omega (arith, few grown, within grown .ordered, within grown .inside, short grown)
+    let counting = c .before .before in
+    omega (arith, few counting, within counting .ordered, within counting .inside, short counting)
 
 -- Steps remain.
 module _ (c : tie.Else2) where
@@ -136,20 +138,20 @@ module _ (c : tie.Else2) where
   remain = omega (arith, c .if2 .left)
 
 returns-3 : tie.Need-returns-3
-unfolding Tells EndsAt
+unfolding Tells Means outcomeOf
 returns-3 c t k =
-    let grown = c .before .before .before in
-    let next = at-place grown k in
-    ((remain (grown .before .before .before .before .before), (next .next, next .isNext, omega (arith, next-counted grown k, c .if3 .taken))), refl)
+    let counting = c .before .before .before in
+    let next = at-place counting k in
+    ((remain (counting .before .before .before .before .before), (next .next, next .isNext, omega (arith, next-counted counting k, c .if3 .taken))), refl)
 
 build-requires : tie.Need-build-requires
 build-requires c κs =
-    let grown = c .before .before .before .before in
-    let at-start = start (fitting grown) in (
-      right-there (stand (fitting grown)) (here (fitting grown)),
+    let counting = c .before .before .before .before in
+    let at-start = start (fitting counting) in (
+      right-there (stand (fitting counting)) (here (fitting counting)),
       (
-        within grown,
-        λ r σ h k. omega (arith, grown .grown .ensures r σ h k, c .before .if3 .left, at-start .pre .1 .1 .1),
+        within counting,
+        λ r σ h k. omega (arith, counting .right-length .ensures r σ h k, c .before .if3 .left, at-start .pre .1 .1 .1),
       ),
     )
 
@@ -159,11 +161,11 @@ same-length c = search needs
 returns-4 : tie.Need-returns-4
 unfolding Tells
 returns-4 c t k =
-    let grown = c .before .before .before .before .before .before .before in
-    let next = at-place grown k in
-    let h = stand (fitting grown) in
-    let right = ruleOf (rules (fitting grown)) (place grown .fit .rule) .right in
-    next-in h next (remain (grown .before .before .before .before .before)) (omega (arith, next-counted grown k, c .before .before .before .before .if3 .left)) k
+    let counting = c .before .before .before .before .before .before .before in
+    let next = at-place counting k in
+    let h = stand (fitting counting) in
+    let right = ruleOf (rules (fitting counting)) (place counting .fit .rule) .right in
+    next-in h next (remain (counting .before .before .before .before .before)) (omega (arith, next-counted counting k, c .before .before .before .before .if3 .left)) k
     (c .before .before .build .ensures right (under-match h next) (right-stands h next) (right-held h next))
 
 pub step-spec : {M : Type 1} → statement M
@@ -179,7 +181,7 @@ step-spec =
     element-copy-out-end
     mul-end-2
     add-end
-    grown-requires
+    right-length-requires
     add-length
     sub-length
     add-length-2

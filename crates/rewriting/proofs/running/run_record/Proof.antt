@@ -11,7 +11,7 @@ use lib.ListN.{length, replicate, set, length-set}
 use Rattle.term.specs.Term.{Term}
 use Rattle.term.specs.At.{At}
 use Rattle.term.specs.Copied.{copied, overlaid}
-use Rattle.stepping.specs.Places.{rulesIn}
+use Rattle.stepping.specs.Runnable.{rulesIn}
 use Rattle.rewriting.specs.Turns.{held, TermIn, RunTo}
 use Rattle.rewriting.specs.declared.running.Reached.{Reached}
 use Rattle.rewriting.proofs.RecordRuns.{term-copied, record-run-in, from-one, from-other}
@@ -117,7 +117,7 @@ add-t12 : tie.Need-add-t12
 add-t12 c = omega (arith, small c)
 
 same-length : tie.Need-same-length
-same-length c = length-set (c .if1 .out) (reached c .length) 5 ∙ as-long c
+same-length c = length-set (c .if1 .out) (reached c .length) _ ∙ as-long c
 
 returns : tie.Need-returns
 returns c t k = record-run-in (ran c k) (out c) (start (before-run c) .pre .1 .1) (c .if1 .out) (laid-down c)

@@ -3,7 +3,7 @@ use mathlib.Core.Path.{_≡_, sym, ap, _∙_}
 use borrow.Author.Needs.{needs}
 use Prim.Native.Nat.{ℕ}
 use Rattle.rewriting.specs.RunMeaning.{runMeaning}
-use Rattle.rewriting.specs.Turns.{outcomeOf}
+use Rattle.stepping.specs.Stepped.{outcomeOf}
 use Rattle.rewriting.specs.declared.running.RunReply.{RunReply}
 use Rattle.rewriting.specs.declared.running.RunReply.the-variants.{RanTo}
 use Rattle.stepping.specs.declared.Outcome.{Outcome}

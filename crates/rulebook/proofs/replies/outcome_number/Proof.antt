@@ -2,7 +2,7 @@
 use Prim.Native.Nat.{ℕ}
 use mathlib.Core.Path.{sym, ap}
 use borrow.Author.Needs.{needs}
-use Rattle.rewriting.specs.Turns.{outcomeOf}
+use Rattle.stepping.specs.Stepped.{outcomeOf}
 use Rattle.stepping.specs.declared.Outcome.{Outcome}
 use Rattle.rulebook.specs.Replies.{outcomeNumber}
 use Rattle.rulebook.proofs.replies.outcome_number.Statement.{statement}

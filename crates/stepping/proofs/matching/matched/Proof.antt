@@ -60,16 +60,16 @@ returns c l s e h k =
     none-held now-going _ refl (symbol-differs now-going (turn .loop-test .taken) (c .before .before .if1 .taken) (λ q r. c .if2 .taken q))
 
 add-if3 : tie.Need-add-if3 Inv-loop μ-loop
-add-if3 c = omega (arith, place-there (c .before .before .before .before))
+add-if3 c = let turn = c .before .before .before .before in omega (arith, place-there turn, left-there turn)
 
 shared-slice-read-if3 : tie.Need-shared-slice-read-if3 Inv-loop μ-loop
-shared-slice-read-if3 c = omega (arith, place-there (c .before .before .before .before .before))
+shared-slice-read-if3 c = let turn = c .before .before .before .before .before in omega (arith, place-there turn, left-there turn)
 
 add-if3-2 : tie.Need-add-if3-2 Inv-loop μ-loop
-add-if3-2 c = omega (arith, left-there (c .before .before .before .before .before))
+add-if3-2 c = let turn = c .before .before .before .before .before in omega (arith, place-there turn, left-there turn)
 
 shared-slice-read-if3-2 : tie.Need-shared-slice-read-if3-2 Inv-loop μ-loop
-shared-slice-read-if3-2 c = omega (arith, left-there (c .before .before .before .before .before .before))
+shared-slice-read-if3-2 c = let turn = c .before .before .before .before .before .before in omega (arith, place-there turn, left-there turn)
 
 returns-2 : tie.Need-returns-2 Inv-loop μ-loop
 returns-2 c l s e h k =

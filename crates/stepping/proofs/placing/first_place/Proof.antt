@@ -10,7 +10,8 @@ use Rattle.term.specs.Term.{Term}
 use Rattle.term.specs.At.{At, Standing}
 use Rattle.term.proofs.At.{at-root}
 use Rattle.book.specs.Book.{Rule}
-use Rattle.stepping.specs.Places.{rulesIn, LeftsAt}
+use Rattle.stepping.specs.Runnable.{rulesIn}
+use Rattle.stepping.specs.FirstPlace.{LeftsAt}
 use Rattle.stepping.proofs.Looking.{Looking, look-begins, root, root-within, look-on-to, look-inside-to, look-ends}
 use Rattle.stepping.proofs.RulesAt.{lefts-stand}
 use Rattle.stepping.proofs.placing.first_place.Statement.{statement}

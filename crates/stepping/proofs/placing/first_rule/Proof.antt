@@ -11,7 +11,7 @@ use Rattle.term.specs.Term.{Term}
 use Rattle.term.specs.At.{At}
 use Rattle.term.proofs.At.{at-root, at-within}
 use Rattle.book.specs.Book.{Rule}
-use Rattle.stepping.specs.Places.{LeftsAt}
+use Rattle.stepping.specs.FirstPlace.{LeftsAt}
 use Rattle.stepping.proofs.Alike.{begins-otherwise}
 use Rattle.stepping.proofs.RuleByRule.{Tried, none-tried, one-more-tried, this-applies, all-tried}
 use Rattle.stepping.proofs.placing.first_rule.Statement.{statement}

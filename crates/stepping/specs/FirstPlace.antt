@@ -1,4 +1,4 @@
--- The rules of a book and the place of a step, where they stand in bytes.
+-- The place of a step, and the rule that the step takes there, where they stand in bytes.
 use Prim.Native.Nat.{ℕ, _+_, _*_, _<_, _≤_}
 use mathlib.Core.Bool.{true, false}
 use mathlib.Core.List.{List, _++_}
@@ -10,23 +10,11 @@ use Rattle.term.specs.Replacement.{Occurs}
 use Rattle.term.specs.Prefix.{prefix}
 use Rattle.term.specs.At.{At}
 use Rattle.book.specs.Book.{Rule}
-use Rattle.book.specs.Meaning.{bookAt}
-use Rattle.book.specs.WasRead.{ReadFrom}
-use Rattle.book.specs.declared.Book.{Book as Places}
 use Rattle.steps.specs.Fits.{matching}
-use Rattle.steps.specs.Step.{NoNewVariable, ruleOf, chosen, applied, stepOf}
+use Rattle.steps.specs.Step.{ruleOf, chosen, applied, stepOf}
 use Rattle.building.specs.Right.{startOf, TermAt}
 use Rattle.building.specs.declared.Fit.{Fit}
 use Rattle.building.specs.declared.Place.{Place}
-
--- The rules of a read book.
-abbrev pub rulesIn : (bytes : List ℕ) → Places → List Rule
-rulesIn bytes places = bookAt bytes places .rules
-
--- A book that can be run: it was read from these bytes, and no rule of it brings a new variable. How that was found out is not asked.
-pub record Runnable (bytes : List ℕ) (places : Places) : Type 0 where
-  pub read : ReadFrom bytes places
-  pub noNew : NoNewVariable (rulesIn bytes places)
 
 -- What looking for a rule that fits asks: so many left sides stand where the two tables say.
 pub record LeftsAt (bytes arities : List ℕ) (many : ℕ) (starts nodes : List ℕ) (rules : List Rule) : Type 0 where

@@ -16,8 +16,8 @@ use Rattle.term.proofs.PrefixAt.{prefix-length}
 use Rattle.building.specs.Right.{startOf, TermAt}
 use Rattle.building.specs.Right.{Held, UnderMatch}
 use Rattle.building.proofs.RightSide.{node, variable-ahead, few-bytes, found-at, Counted, none-counted, symbol-counted, variable-counted, all-counted, counted-as}
-use Rattle.building.proofs.grown.Statement.{statement}
-use Rattle.building.proofs.grown.Tie as tie
+use Rattle.building.proofs.right_length.Statement.{statement}
+use Rattle.building.proofs.right_length.Tie as tie
 
 abbrev Inv-loop : tie.InvT-loop
 Inv-loop book right-at right-end bytes arities table right₀ total₀ right total =
@@ -127,8 +127,8 @@ loop-again c r σ h k =
 returns : tie.Need-returns Inv-loop μ-loop
 returns c r σ h k = all-counted (c .before .loop .inv r σ h k) (c .loop-test .left)
 
-pub grown-spec : {M : Type 1} → statement M
-grown-spec =
+pub right-length-spec : {M : Type 1} → statement M
+right-length-spec =
     tie.close
     (tie.spec
     Inv-loop
