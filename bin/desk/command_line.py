@@ -32,21 +32,25 @@ clear the book, renamed to BOOK.ranks.stale.
       --limit SECONDS    for the solver (60)
 """ + RANKS_HELP + """\
       --sheet FILE       a clearance sheet too: one page of HTML to be read or printed
+JSON: result, ranks, order (the symbols from the highest rank down, those of one rank together), ranks_file, solver, clause_file,
+book (file, bytes, sha256), sheet, older_ranks.
 """),
     "check": Command(("BOOK", "RANKS"), (), "checks ranks, one byte a symbol", """\
 Has the proved check decide whether the ranks, one byte a symbol, make every rule decrease. It says so if RANKS.of shows that
-they were made for another book.
+they were made for another book. JSON: result, ranks, order, ranks_of (this book, another book, changed, not known), book.
 """),
     "run": Command(("BOOK", "RANKS", "RECORD"), ("--budget",), "runs a record under a book that the ranks clear", """\
 Applies rules to the record until none fits. `done`: none fits any more (status 0). `spent`: the budget is used and a rule
 still fits (status 3). `too large`: the next term would have more than 256 nodes (status 4).
       --budget STEPS     at most so many (1000000)
+JSON: result, steps, nodes, term, bytes, ranks_of, book.
 """),
     "argument": Command(("BOOK", "RECORD", "NUMBER"), (), "argument NUMBER, from 0, of the record's root", """\
-Prints where argument NUMBER, from 0, of the record's root starts, and the argument.
+Prints where argument NUMBER, from 0, of the record's root starts, and the argument. JSON: result, start, nodes, term, bytes, book.
 """),
     "show": Command(("BOOK",), (), "the book's symbols and rules", """\
-Prints the book's symbols with their arities, and its rules: f1 is symbol 1, x0 is variable 0.
+Prints the book's symbols with their arities, and its rules: f1 is symbol 1, x0 is variable 0. JSON: result, symbols (name, arity),
+rules (number, left, right), book.
 """),
     "make": Command(("TEXT",), ("--to",), "a book, and perhaps a record, from text as `show` prints it", """\
 Makes a book of lines as `show` prints them, and a record of a line `record`:
@@ -58,9 +62,10 @@ Makes a book of lines as `show` prints them, and a record of a line `record`:
 and writes NAME.book and NAME.record for NAME.txt. Text behind # is passed over. Nothing is written unless the proved reader
 reads the book back as the text that it was made from.
       --to NAME          written in place of NAME.book and NAME.record of the text's own name
+JSON: result, files.
 """),
     "clauses": Command(("BOOK",), (), "prints the book's clause file, for a solver elsewhere", """\
-Prints the book's clause file in DIMACS CNF, for a solver elsewhere.
+Prints the book's clause file in DIMACS CNF, for a solver elsewhere. JSON: result, header, variables, clauses, file, book.
 """),
     "answer": Command(("BOOK", "ANSWER"), ("--ranks",), "reads what that solver printed, and goes on as clear does", """\
 Reads the s and v lines that a solver printed for the book's clause file, and goes on as `clear` does. Of an answer longer than
@@ -73,8 +78,9 @@ HEAD = "rulebook: clears rule books, and runs records under them\n"
 FOOT = """
   help [COMMAND], COMMAND --help, --version
 
-With --json every command prints one JSON object. A file named - is standard input (the file - itself is ./-); behind -- every
-word is a file. A refusal is the line `refused N at P` on standard output, and a sentence on standard error.
+With --json every command prints one JSON object: status, says (the sentences), the fields that its help names, or refusal, place
+and for refusal 8 rule, or error. A file named - is standard input (the file - itself is ./-); behind -- every word is a file.
+A refusal is the line `refused N at P` on standard output, and a sentence on standard error.
 Status: 0 a result; 1 refused; 2 used wrongly, or a file could not be read or written, or a program is missing; 3 the budget
 is spent; 4 the term is too large; 5 the solver's time is up.
 """
@@ -163,12 +169,12 @@ def _perform(words, home, page):
         files.print_error(overview().rstrip("\n"))
         return MISUSED
     name, rest = words[0], words[1:]
-    if name in ("--version", "version"):
+    if name == "--version":
         return _show_version(programs, page)
-    if name in ("help", "--help", "-h") and not [word for word in rest if word in COMMANDS]:
-        page.show(overview().encode(), help=overview())
-        return DONE
-    if name == "help":
+    if name in ("help", "--help", "-h"):
+        if not rest:
+            page.show(overview().encode(), help=overview())
+            return DONE
         name, rest = rest[0], ["--help"]
     if name not in COMMANDS:
         raise misused(f"there is no command {name}")

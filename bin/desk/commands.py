@@ -72,6 +72,8 @@ class Desk:
         found, sheet_file = None, options.get("--sheet")
         if sheet_file:
             files.may_become(sheet_file, [book], "--sheet FILE")
+            if target and os.path.abspath(sheet_file) in (os.path.abspath(target), os.path.abspath(target + ".of")):
+                raise broken(f"{sheet_file} is where the ranks go; --sheet FILE names another place")
         try:
             _, head = self._heard("clause_file", cnf := self.programs.clause_file(book.data), book.data)
             found = solvers.find(options.get("--solver"), solvers.install_by_apt, self.page.say_now)

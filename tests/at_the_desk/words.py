@@ -25,6 +25,7 @@ def words():
                     "run", "--budget=1", "--", "addition.book", "ordered", "addition.record")
         room.expect(0, "rulebook: clears rule books, and runs records under them", "", "help")
         room.expect(0, "rulebook: clears rule books, and runs records under them", "", "--help")
+        room.expect(2, "", f"there is no command clera {HOW}", "help", "clera")
         for name in ("clear", "check", "run", "argument", "show", "make", "clauses", "answer", "refusals"):
             for ask in ((name, "--help"), ("help", name), (name, "-h")):
                 ran = room.expect(0, ANY_HELP, "", *ask)
@@ -94,6 +95,8 @@ def sheets():
         room.expect(2, "", "link is a link, and is left as it is; --sheet FILE names another place", "clear", "dosing.book", "--sheet", "link")
         room.expect(2, "", "dosing.book is the file dosing.book that is to be read; --sheet FILE names another place",
                     "clear", "dosing.book", "--sheet", "dosing.book")
+        for name in ("both", "./both.of"):
+            room.expect(2, "", f"{name} is where the ranks go; --sheet FILE names another place", "clear", "dosing.book", "--sheet", name, "--ranks", "both")
         room.expect(1, "refused 14 at 0", FOURTEEN, "clear", "undo.book", "--sheet", "undo.html")
 
 
