@@ -127,8 +127,6 @@ def _taken(name, words):
     for word in words:
         if word == "--":
             files_named += words
-        elif word == "--json":
-            pass
         elif word.startswith("-") and word != "-":
             option, has_value, value = word.partition("=")
             if option not in command.options:
@@ -190,15 +188,21 @@ def main(words):
     heed_signals()
     resource.setrlimit(resource.RLIMIT_CORE, (0, 0))
     home = os.path.dirname(os.path.dirname(os.path.dirname(os.path.realpath(__file__))))
-    page = Page("--json" in (words[:words.index("--")] if "--" in words else words))
+    before = words.index("--") if "--" in words else len(words)
+    page = Page("--json" in words[:before])
     try:
         try:
-            status = _perform([word for word in words if word != "--json"] if words[:1] in (["help"], ["--help"], ["--version"]) else words, home, page)
+            status = _perform([word for word in words[:before] if word != "--json"] + words[before:], home, page)
         except End as end:
             status = end.status
             if end.sentence:
                 page.facts["error"] = end.sentence
                 page.say(end.sentence)
+        except Exception as error:  # no fault of the desk may look like a refusal
+            status = MISUSED
+            page.lines = b""
+            page.facts["error"] = f"a fault of the desk itself: {error!r}"
+            page.say(page.facts["error"])
         return page.close(status)
     except Stopped as stop:
         die_of(stop.number)

@@ -1,5 +1,6 @@
 """The commands. What each says of a book, ranks or a record is what a proved program printed."""
 import hashlib
+import itertools
 import os
 import re
 import stat
@@ -60,9 +61,11 @@ class Desk:
         if not ranks.is_plain or not os.path.isfile(ranks.name + ".of"):
             return "not known"
         sums = re.findall(r"(?m)^([0-9a-f]{64})  ", files.read(ranks.name + ".of").data.decode("utf-8", "replace"))
-        if sums[:1] != [book.sum]:
+        if len(sums) != 2:
+            return "not known"
+        if sums[0] != book.sum:
             return "another book"
-        return "this book" if sums[1:2] == [ranks.sum] else "changed"
+        return "this book" if sums[1] == ranks.sum else "changed"
 
     # ---- clearing
 
@@ -138,21 +141,28 @@ class Desk:
         if not self._clears(book.data, ranks):
             raise broken("the ranks were spoilt on the way from the answer; nothing was written")
         if target is not None:
-            try:
-                self._write(book, target, ranks)
-            except BaseException:
-                with signals_wait():
-                    for each in (target, target + ".of"):
-                        files.remove(each)
-                raise
+            self._write(book, target, ranks)
         self.page.show(reply, result="cleared", ranks=list(ranks), order=replies.levels(ranks), ranks_file=target)
         where = f"they are in {target}" if target else "they are in no file, as the book is none; --ranks FILE names one"
         self.page.say(f"{whose} proposes these ranks and the proved check accepts them: every record comes to rest; {where}")
         self._say_order(ranks)
 
     def _write(self, book, target, ranks):
-        files.remove(target + ".of")
-        files.put(target, ranks, "--ranks FILE")
+        """Leaves ranks that were made sure of, or none; where none can be written, those from before are told."""
+        with signals_wait():
+            try:
+                files.put(target, ranks, "--ranks FILE")
+            except End as end:
+                self._older_ranks(target, book.data)
+                raise end
+            try:
+                self._make_sure(book, target, ranks)
+            except BaseException:
+                for each in (target, target + ".of"):
+                    files.remove(each)
+                raise
+
+    def _make_sure(self, book, target, ranks):
         sums = ((book.sum, book.name), (hashlib.sha256(ranks).hexdigest(), target))
         lines = "".join(f"{total}  {os.path.basename(name)}\n" for total, name in sums)
         files.put(target + ".of", lines.encode("utf-8", "surrogateescape"), "--ranks FILE")
@@ -228,9 +238,9 @@ class Desk:
         return DONE
 
     def refusals(self, _words, _options):
-        rows = replies.refusals(self.home)
-        text = "".join(f"{number:2}  {meaning}: {advice}\n".replace("%P", "P") for number, (meaning, advice) in rows.items())
-        self.page.show(text.encode(), refusals=[{"number": number, "meaning": meaning, "advice": advice} for number, (meaning, advice) in rows.items()])
+        rows = [(number, meaning.replace("%P", "P"), advice) for number, (meaning, advice) in replies.refusals(self.home).items()]
+        text = "".join(f"{number:2}  {meaning}: {advice}\n" for number, meaning, advice in rows)
+        self.page.show(text.encode(), refusals=[dict(zip(("number", "meaning", "advice"), row)) for row in rows])
         return DONE
 
     # ---- a book from text
@@ -263,7 +273,7 @@ class Desk:
             self.page.say(f"line {line}: the book that this text makes is refused")
             self._refused(reply, parts["number"], parts["place"], book.data)
         back = [line for line in reply.decode().splitlines() if not line.startswith("rules ")]
-        for was, now in zip(book.shown if book.shown[:1] and book.shown[0].startswith("symbols") else ["symbols", *book.shown], back):
+        for was, now in itertools.zip_longest(book.shown, back):
             if was != now:
                 raise broken(f"the text says `{was}`, and a reader would take it for `{now}`; nothing was written")
         return reply

@@ -66,17 +66,16 @@ def _rule(book, number, text, at):
 
 def read(text):
     """The book, and the record or None."""
-    book, record, rules, symbols = _Maker(), None, 0, False
+    book, record, rules = _Maker(), None, 0
     lines = text.splitlines()
     for number, line in enumerate(lines, 1):
         line = line.partition("#")[0].strip()
         words = line.split()
         if not words or words[0] in PASSED_OVER:
             continue
-        if words[0] == "symbols" and not symbols and not rules:
-            symbols = True
+        if words[0] == "symbols" and not book.shown:
             _symbols(book, number, words[1:])
-        elif words[0] == "rule":
+        elif words[0] == "rule" and book.shown:
             _rule(book, number, line, rules)
             rules += 1
         elif words[0] == "record" and record is None:
@@ -86,5 +85,7 @@ def read(text):
             record.add(number, 5)
         else:
             raise broken(f"line {number} is no line of a book: it begins with {words[0]}")
+    if not book.shown:
+        raise broken("a book begins with the line `symbols`, and each symbol with its arity behind it")
     book.add(len(lines), 5)
     return book.made(), record and record.made()

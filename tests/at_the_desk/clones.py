@@ -43,6 +43,9 @@ def replies():
             room.home = make_release(room, rulebook_pipe=f"cat >/dev/null\n{line}\n")
             ran = room.use("check", "addition.book", "ordered", **scripts)
             compare(f"a program that prints {what}", (2, ""), (ran.status, ran.out))
+        room.home = make_release(room, rulebook_pipe='read -r head\ncat >/dev/null\n'
+                                 'case $head in c*) echo refused 8 at 99 ;; *) printf "symbols\\nrules 0\\n" ;; esac\n')
+        room.expect(2, "", "a fault of the desk itself: IndexError('list index out of range')", "check", "addition.book", "ordered", **scripts)
         room.home = make_release(room, clause_file="cat >/dev/null; printf 'p cnf 12 21\\n-3 1 0\\n'\n")
         room.expect(2, "", "the program clause_file stopped midway", "clauses", "addition.book", **scripts)
         room.expect(2, "", "the program clause_file stopped midway", "clear", "addition.book", "--solver", "./tells", **scripts)

@@ -1,5 +1,6 @@
 """Where ranks, sheets and lines go: targets, older ranks, sums, full disks and closed pipes."""
 import hashlib
+import json
 import os
 import stat
 import subprocess
@@ -59,8 +60,13 @@ def fsync(at):
         raise OSError(28, 'No space left on device')
 os.fsync = fsync
 """)
-    room.expect(2, "", "one_rule.book.ranks cannot be written: no space left on device; --ranks FILE names another place", "clear", "one_rule.book",
-                env=room.environment(PYTHONPATH=room.at("disk")))
+    no_space = "one_rule.book.ranks cannot be written: no space left on device; --ranks FILE names another place"
+    room.expect(2, "", no_space, "clear", "one_rule.book", env=room.environment(PYTHONPATH=room.at("disk")))
+    room.write("one_rule.book.ranks", bytes([2, 1, 0]))
+    room.write("one_rule.book.ranks.of", b"")
+    ran = room.expect(2, "", no_space, "clear", "one_rule.book", env=room.environment(PYTHONPATH=room.at("disk")))
+    compare("ranks from before stay where new ones cannot be written",
+            "note: one_rule.book.ranks is from before; the proved check accepts it for the book as it is now", ran.sentences[0])
 
 
 def older_ranks():
@@ -98,6 +104,8 @@ def bound():
         ran = room.expect(0, "done", ORDER_LAST, "run", "doubled.book", "addition.book.ranks", "addition.record")
         compare("run: a note on ranks of another book", another, ran.sentences[0])
         room.write("addition.book.ranks", bytes([0, 1, 2]))
+        page = json.loads(room.use("check", "addition.book", "ordered", "--json").out)
+        compare("ranks without sums", "not known", page.get("ranks_of"))
         ran = room.expect(0, "cleared", ORDER_LAST, "check", "addition.book", "addition.book.ranks")
         compare("check: a note on ranks that were changed", "note: addition.book.ranks is not as `clear` wrote it: addition.book.ranks.of has its sum",
                 ran.sentences[0])

@@ -25,6 +25,7 @@ def words():
                     "run", "--budget=1", "--", "addition.book", "ordered", "addition.record")
         room.expect(0, "rulebook: clears rule books, and runs records under them", "", "help")
         room.expect(0, "rulebook: clears rule books, and runs records under them", "", "--help")
+        holds("--json in front", room.use("--json", "show", "addition.book").first.startswith("{"))
         room.expect(2, "", f"there is no command clera {HOW}", "help", "clera")
         for name in ("clear", "check", "run", "argument", "show", "make", "clauses", "answer", "refusals"):
             for ask in ((name, "--help"), ("help", name), (name, "-h")):
@@ -122,6 +123,8 @@ def text():
                 ("another record", b"symbols f0/0\nrecord f0 f0\n", ELEVEN),
                 ("a record in brackets", b"symbols f0/0\nrecord (f0)\n",
                  "the text says `record (f0)`, and a reader would take it for `record f0`; nothing was written"),
+                ("no symbols", b"record f0\n", "a book begins with the line `symbols`, and each symbol with its arity behind it"),
+                ("rules first", b"rule 0: x0 -> x0\nsymbols\n", "line 1 is no line of a book: it begins with rule"),
                 ("two records", b"symbols f0/0\nrecord f0\nrecord f0\n", "line 3 is no line of a book: it begins with record")):
             room.write("bad.txt", lines)
             ran = room.use("make", "bad.txt")
