@@ -12,7 +12,7 @@ use Rattle.reply.proofs.Given.{refused-not-given, bind-given, then-given, unles
 use Rattle.term.specs.Tables.{Kind, unknown, symbol, rule, symbolNode, variableNode, end, kindOf, bodyLength, bodyLengths}
 use Rattle.term.specs.Term.{Term}
 use Rattle.term.specs.Prefix.{Node, symbolic, variable, arityOf, prefix, tree}
-use Rattle.term.proofs.Prefix.{Allowed, declared, standing, Leaves, leaves-next, nodeBytes, nodesBytes, TreeOf, tree-fills}
+use Rattle.term.proofs.Prefix.{NodeOver, declared, standing, Leaves, leaves-next, nodeBytes, nodesBytes, TreeOf, tree-fills}
 use Rattle.book.specs.Book.{Book, Rule}
 use Rattle.book.specs.Bytes.{symbolsBytes, ruleBytes, rulesBytes, bookBytes}
 use Rattle.book.specs.Checks.{known, allowed, bodyFits, nothingMore}
@@ -79,7 +79,7 @@ module _ (s : State) where
   right-taken left (suc m) ns l = refl
 
   node-taken :
-      (stage : Stage) (this : Node) → StageKept (s .arities) (s .rules) stage → T (sideOpen (sideOf stage .stage)) → Allowed (s .arities) (λ x. x ≤ 15) this →
+      (stage : Stage) (this : Node) → StageKept (s .arities) (s .rules) stage → T (sideOpen (sideOf stage .stage)) → NodeOver (s .arities) (λ x. x ≤ 15) this →
       taken (nodeAt stage s this) ≡ takenAt s stage ++ nodeBytes this
   unfolding nodeAt sideOf sideOpen noSide nodesBytes
   node-taken beforeRules this k isOpen ok = absurd isOpen

@@ -12,7 +12,7 @@ use Rattle.term.specs.Tables.{Kind, unknown, symbol, rule, symbolNode, variable
 use Rattle.term.specs.Term.{Term}
 use Rattle.term.specs.Prefix.{Node, symbolic, variable, arityOf, tree}
 use Rattle.reply.proofs.Given.{refused-not-given, bind-given, then-given, either-given, told-given}
-use Rattle.term.proofs.Prefix.{Allowed, declared, standing, Leaves, noNode, leaves-next, leaves-variable, TreeOf, tree-fills}
+use Rattle.term.proofs.Prefix.{NodeOver, declared, standing, Leaves, noNode, leaves-next, leaves-variable, TreeOf, tree-fills}
 use Rattle.book.specs.Book.{Book, Rule, symbols}
 use Rattle.book.specs.Limits.{SideWithinLimits, WithinLimits}
 use Rattle.book.specs.Checks.{allowed, bodyFits, roomLeft}
@@ -96,7 +96,7 @@ module _ (s : State) (kept : Kept s) where
       record { settled = kept .settled; stage = (room, record { filled = l; some-missing = omega arith; few = few }, side) }
 
   node-kept :
-      (stage : Stage) (this : Node) → StageKept (s .arities) (s .rules) stage → Allowed (s .arities) (λ x. x ≤ 15) this →
+      (stage : Stage) (this : Node) → StageKept (s .arities) (s .rules) stage → NodeOver (s .arities) (λ x. x ≤ 15) this →
       sideOf stage .nodes < 10 → Kept (nodeAt stage s this)
   unfolding nodeAt sideOf
   node-kept beforeRules this k ok few = kept

@@ -11,7 +11,7 @@ use lib.Seq.{drop-cons, drop-drop, getD-drop, take-append-seam}
 use Rattle.term.specs.Term.{Term, size}
 use Rattle.term.specs.Prefix.{Node, symbolic, variable, arityOf, prefix, tree}
 use Rattle.term.specs.At.{At}
-use Rattle.term.proofs.Prefix.{Allowed, Leaves, noNode, leaves-next, nodeBytes, nodesBytes, TreeOf, tree-fills}
+use Rattle.term.proofs.Prefix.{NodeOver, Leaves, noNode, leaves-next, nodeBytes, nodesBytes, TreeOf, tree-fills}
 use Rattle.term.proofs.PrefixAt.{prefix-at}
 use Rattle.book.specs.Meaning.{nodeOf, nodesAt, treeAt}
 
@@ -44,7 +44,7 @@ nodes-append (n ∷ nodes) this = ap (λ (l : List ℕ). nodeBytes n ++ l) (node
 -- One node more.
 pub one-more :
     {bytes arities : List ℕ} {u missing : ℕ} {nodes : List Node} {p : ℕ} (e : ℕ) (this : Node) → SoFar bytes arities u missing nodes p → 0 < missing →
-    Allowed arities AnyVariable this → drop p bytes ≡ nodeBytes this ++ drop e bytes →
+    NodeOver arities AnyVariable this → drop p bytes ≡ nodeBytes this ++ drop e bytes →
     SoFar bytes arities u (pred missing + arityOf arities this) (nodes ++ (this ∷ [])) e
 one-more {bytes} {arities} {u} {missing} {nodes} {p} e this so some ok its =
     record {

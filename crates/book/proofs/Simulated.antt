@@ -10,7 +10,7 @@ use lib.Seq.{getD-set-same, getD-take}
 use Rattle.term.specs.Tables.{Kind, unknown, symbol, rule, symbolNode, variableNode, end, kindOf, bodyLength, bodyLengths}
 use Rattle.term.specs.Term.{Term}
 use Rattle.term.specs.Prefix.{Node, symbolic, variable, arityOf, tree}
-use Rattle.term.proofs.Prefix.{Allowed, declared, standing, nodeBytes}
+use Rattle.term.proofs.Prefix.{NodeOver, declared, standing, nodeBytes}
 use Rattle.book.specs.Book.{Rule}
 use Rattle.book.specs.Checks.{bodyAt, known, allowed, bodyFits, roomLeft}
 use Rattle.book.specs.Entries.{withSymbol, withLeft, withRight}
@@ -147,7 +147,7 @@ module _ {bytes : List ℕ} {s : State} {q : Reader} {p : ℕ} (sim : Simulated 
       record { matched = sim .matched; side = refl; stage = (record { room = room; some-missing = omega arith; soFar = so }, lw) }
 
   -- A node has the same arity in the array as in the list.
-  arity-same : (this : Node) → Allowed (s .arities) AnyVariable this → arityOf (q .book .arities) this ≡ arityOf (s .arities) this
+  arity-same : (this : Node) → NodeOver (s .arities) AnyVariable this → arityOf (q .book .arities) this ≡ arityOf (s .arities) this
   unfolding arityOf aritiesOf
   arity-same (symbolic f) (declared d) =
       sym (getD-take (q .book .symbols) (q .book .arities) f 0 (omega (arith, sim .matched .symbolCount))) ∙ ap (λ (l : List ℕ). getD l f 0) (sim .matched .declared)
@@ -155,7 +155,7 @@ module _ {bytes : List ℕ} {s : State} {q : Reader} {p : ℕ} (sim : Simulated 
 
   -- The reader behind a node, in the numbers of the trees' machine.
   taken-as :
-      (e : ℕ) (this : Node) → Allowed (s .arities) AnyVariable this → (side : Side) (ns : List Node) → q .side ≡ side → side .nodes ≡ length ns →
+      (e : ℕ) (this : Node) → NodeOver (s .arities) AnyVariable this → (side : Side) (ns : List Node) → q .side ≡ side → side .nodes ≡ length ns →
       readerAfter (q .book) e (sideAfter (side .stage) (pred (side .missing) + arityOf (s .arities) this) (length (ns ++ (this ∷ [])))) ≡ nodeTaken q e this
   unfolding nodeTaken withNode
   taken-as e this ok side ns same many =
@@ -164,7 +164,7 @@ module _ {bytes : List ℕ} {s : State} {q : Reader} {p : ℕ} (sim : Simulated 
 
   -- A node of the side that is open.
   node-simulated :
-      (e : ℕ) (this : Node) → Allowed (s .arities) AnyVariable this → drop p bytes ≡ nodeBytes this ++ drop e bytes → T (sideOpen (sideOf (s .stage) .stage)) →
+      (e : ℕ) (this : Node) → NodeOver (s .arities) AnyVariable this → drop p bytes ≡ nodeBytes this ++ drop e bytes → T (sideOpen (sideOf (s .stage) .stage)) →
       Simulated bytes (trees.nodeAt (s .stage) s this) (nodeTaken q e this) e
   unfolding trees.nodeAt sideOpen sideOf noSide
   node-simulated e this ok its o = go (s .stage) (sim .side) (sim .stage) o

@@ -25,8 +25,9 @@ ghost use Rattle.book.specs.Meaning.{opensOf, meaning};
 ghost use Rattle.book.specs.Entries.{nothingRead};
 ghost use Rattle.book.specs.Placed.{ended, answer, placed};
 
-// A book that was read, as places in its bytes. Symbol f has arity arities[f]. The left side of rule i stands from left_at[i] on
-// and has left_nodes[i] nodes, the right side from right_at[i] on and has right_nodes[i]. Entries past the counts are 0.
+// A book that was read, as places in its bytes: there is no heap for trees, and the bytes stay with the caller. Symbol f has arity
+// arities[f]. The left side of rule i stands from left_at[i] on and has left_nodes[i] nodes, the right side from right_at[i] on and has
+// right_nodes[i]. Entries past the counts are 0.
 pub struct Book {
     pub symbols: usize,
     pub arities: [u8; 16],

@@ -14,16 +14,16 @@ use Rattle.term.specs.Replacement.{Occurs, OccursIn, it, under, first, l
 use Rattle.reply.proofs.Tests.{and-left, and-right, and-both}
 
 -- A node that may stand: a declared symbol, or a variable that may.
-pub data Allowed (arities : List ℕ) (Variable : ℕ → Type 0) : Node → Type 0 where
-  declared : {f : ℕ} → f < length arities → Allowed arities Variable (symbolic f)
-  standing : {x : ℕ} → Variable x → Allowed arities Variable (variable x)
+pub data NodeOver (arities : List ℕ) (Variable : ℕ → Type 0) : Node → Type 0 where
+  declared : {f : ℕ} → f < length arities → NodeOver arities Variable (symbolic f)
+  standing : {x : ℕ} → Variable x → NodeOver arities Variable (variable x)
 
 -- The count of a reader: where `missing` subterms are to come and these nodes do, `remaining` are still to come behind them. A node comes
 -- only where one is missing; it takes one away and adds its arity.
 pub data Leaves (arities : List ℕ) (Variable : ℕ → Type 0) : (missing : ℕ) → List Node → (remaining : ℕ) → Type 0 where
   noNode : {missing : ℕ} → Leaves arities Variable missing [] missing
   node :
-      {missing remaining : ℕ} {this : Node} {nodes : List Node} → Allowed arities Variable this →
+      {missing remaining : ℕ} {this : Node} {nodes : List Node} → NodeOver arities Variable this →
       Leaves arities Variable (missing + arityOf arities this) nodes remaining → Leaves arities Variable (suc missing) (this ∷ nodes) remaining
 
 -- The two bytes of a node, and of nodes one after another.
@@ -54,21 +54,21 @@ module _ {arities : List ℕ} {Variable : ℕ → Type 0} where
   -- One node more at the end, as a reader takes it.
   pub leaves-next :
       {a : ℕ} {nodes : List Node} {this : Node} (missing : ℕ) → 0 < missing → Leaves arities Variable a nodes missing →
-      Allowed arities Variable this → Leaves arities Variable a (nodes ++ (this ∷ [])) (pred missing + arityOf arities this)
+      NodeOver arities Variable this → Leaves arities Variable a (nodes ++ (this ∷ [])) (pred missing + arityOf arities this)
   leaves-next zero some-missing l ok = absurd (omega arith)
   leaves-next (suc missing) some-missing l ok = leaves-append l (node ok noNode)
 
-  leaves-allowed : {a b : ℕ} {nodes : List Node} {this : Node} → Leaves arities Variable a nodes b → List·Memᴰ this nodes → Allowed arities Variable this
-  leaves-allowed noNode m = elim m [ ]
-  leaves-allowed (node ok k) (List·Memᴰ·head e) = rw e ok
-  leaves-allowed (node ok k) (List·Memᴰ·tail m) = leaves-allowed k m
+  leaves-over : {a b : ℕ} {nodes : List Node} {this : Node} → Leaves arities Variable a nodes b → List·Memᴰ this nodes → NodeOver arities Variable this
+  leaves-over noNode m = elim m [ ]
+  leaves-over (node ok k) (List·Memᴰ·head e) = rw e ok
+  leaves-over (node ok k) (List·Memᴰ·tail m) = leaves-over k m
 
-  allowed-variable : {x : ℕ} → Allowed arities Variable (variable x) → Variable x
-  allowed-variable (standing v) = v
+  over-variable : {x : ℕ} → NodeOver arities Variable (variable x) → Variable x
+  over-variable (standing v) = v
 
   -- Only variables that may stand do.
   pub leaves-variable : {a b x : ℕ} {nodes : List Node} → Leaves arities Variable a nodes b → List·Memᴰ (variable x) nodes → Variable x
-  leaves-variable l m = allowed-variable (leaves-allowed l m)
+  leaves-variable l m = over-variable (leaves-over l m)
 
 -- A term in which no variable occurs is without variables.
 mutual
