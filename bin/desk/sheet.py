@@ -63,7 +63,7 @@ def _row(names, top):
 
 
 def picture(ranks, arities):
-    """The ranks from the highest down: a symbol is above those of every lower line, and unrelated to those of its own."""
+    """The ranks from the highest down: a symbol is above those of every lower rank, and unrelated to those of its own."""
     parts, top, ranks_down = [], 8, sorted(set(ranks), reverse=True)
     for level, names in zip(ranks_down, replies.levels(ranks)):
         row, height = _row([f"{name}/{arities[name]}" for name in names], top)
@@ -118,7 +118,7 @@ def page(cleared):
 <h2>What was cleared, and by what</h2>
 <table>{facts}</table>
 <h2>The order of the symbols</h2>
-<p>A symbol is above all symbols of the lines below its own; symbols of one line are unrelated. The number behind a name is its arity.</p>
+<p>A symbol is above all symbols of a lower rank; symbols of one rank are unrelated. The number behind a name is its arity.</p>
 {picture(cleared.ranks, arities) if cleared.ranks else "<p>The book has no symbols.</p>"}
 <h2>The rules</h2>
 <p>f1 is symbol 1, x0 is variable 0. A rule replaces its left side by its right side.</p>
