@@ -69,7 +69,9 @@ fn lay(
 ) -> usize
     requires { ⌜ RightAt (now book) (now bytes) arities table «right_at» «right_end» ⌝ }
     requires { ⌜ UnderMatch (now book) (now bytes) arities table «right_at» «right_end» (FitsBehind at (length (now out))) ⌝ }
-    ensures { λ r. ⌜ UnderMatch (now (book .entry)) (now (bytes .entry)) arities table «right_at» «right_end» (LaidBehind at r (now (out .entry)) (now (out .exit))) ⌝ }
+    ensures { λ r.
+        ⌜ UnderMatch (now (book .entry)) (now (bytes .entry)) arities table «right_at» «right_end»
+        (LaidBehind at r (now (out .entry)) (now (out .exit))) ⌝ }
 {
     let mut right = right_at;
     let mut end = at;
@@ -103,7 +105,9 @@ pub fn build(
     requires { ⌜ RightAt (now book) (now bytes) arities (place .fit .table) «right_at» «right_end» ⌝ }
     requires { ⌜ Within (now bytes) place ⌝ }
     requires { ⌜ UnderMatch (now book) (now bytes) arities (place .fit .table) «right_at» «right_end» (BuiltFits (now bytes) place (length (now out))) ⌝ }
-    ensures { λ r. ⌜ UnderMatch (now (book .entry)) (now (bytes .entry)) arities (place .fit .table) «right_at» «right_end» (Built (now (bytes .entry)) place r (now (out .entry)) (now (out .exit))) ⌝ }
+    ensures { λ r.
+        ⌜ UnderMatch (now (book .entry)) (now (bytes .entry)) arities (place .fit .table) «right_at» «right_end»
+        (Built (now (bytes .entry)) place r (now (out .entry)) (now (out .exit))) ⌝ }
 {
     let at = place.at;
     let behind = place.end;

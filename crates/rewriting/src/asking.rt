@@ -59,7 +59,9 @@ pub fn argument_reply(book: &[u8], record: &[u8], number: u64) -> ArgumentReply
 // every refusal.
 pub fn argument<'a>(book: &[u8], record: &'a [u8], number: u64) -> &'a [u8]
     ensures bytes { λ r. ⌜ now r ≡ partBytes (handedOut (argument (now (book .entry)) (now («record» .entry)) number)) (now («record» .entry)) ⌝ }
-    ensures place { λ r. ⌜ (r .ptr .0 ≡ «record» .entry .ptr .0) × (r .ptr .1 ≡ «record» .entry .ptr .1 + handedOut (argument (now (book .entry)) (now («record» .entry)) number) .start) ⌝ }
+    ensures place { λ r.
+        ⌜ (r .ptr .0 ≡ «record» .entry .ptr .0) ×
+        (r .ptr .1 ≡ «record» .entry .ptr .1 + handedOut (argument (now (book .entry)) (now («record» .entry)) number) .start) ⌝ }
 {
     let reply = argument_reply(book, record, number);
     if let ArgumentReply::Found { start, length } = reply {

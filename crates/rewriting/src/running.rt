@@ -49,7 +49,10 @@ fn turn(
 ) -> Stepped
     requires { ⌜ Runnable (now book) places ⌝ }
     requires { ⌜ Holding (places .arities) «in_one» (now one) (now other) length ⌝ }
-    ensures { λ r. ⌜ ((t : Term) → TermIn (places .arities) «in_one» (now (one .entry)) (now (other .entry)) length t → Turned (places .arities) (rulesIn (now (book .entry)) places) t left «in_one» (now (one .entry)) (now (other .entry)) (now (one .exit)) (now (other .exit)) r) ⌝ }
+    ensures { λ r.
+        ⌜ ((t : Term) → TermIn (places .arities) «in_one» (now (one .entry)) (now (other .entry)) length t →
+        Turned (places .arities) (rulesIn (now (book .entry)) places) t left «in_one»
+        (now (one .entry)) (now (other .entry)) (now (one .exit)) (now (other .exit)) r) ⌝ }
 {
     if in_one {
         return step(book, places, &one[..length], left, other);
@@ -69,7 +72,9 @@ fn run_on(
 ) -> Reached
     requires { ⌜ Runnable (now book) places ⌝ }
     requires { ⌜ Holding (places .arities) true (now one) (now other) length ⌝ }
-    ensures { λ r. ⌜ ((t : Term) → TermIn (places .arities) true (now (one .entry)) (now (other .entry)) length t → RunTo (places .arities) (rulesIn (now (book .entry)) places) t budget (now (one .exit)) (now (other .exit)) r) ⌝ }
+    ensures { λ r.
+        ⌜ ((t : Term) → TermIn (places .arities) true (now (one .entry)) (now (other .entry)) length t →
+        RunTo (places .arities) (rulesIn (now (book .entry)) places) t budget (now (one .exit)) (now (other .exit)) r) ⌝ }
 {
     let mut steps: u64 = 0;
     let mut in_one = true;
@@ -107,7 +112,9 @@ fn run_record(
     requires { ⌜ Runnable (now book) places ⌝ }
     requires { ⌜ RecordAt (now «record») (places .arities) size ⌝ }
     requires { ⌜ 513 ≤ length (now out) ⌝ }
-    ensures { λ r. ⌜ ((t : Term) → At (now («record» .entry)) (places .arities) 0 t size → RunsTo (given (runFrom (rulesIn (now (book .entry)) places) budget 0 t)) r (now (out .entry)) (now (out .exit))) ⌝ }
+    ensures { λ r.
+        ⌜ ((t : Term) → At (now («record» .entry)) (places .arities) 0 t size →
+        RunsTo (given (runFrom (rulesIn (now (book .entry)) places) budget 0 t)) r (now (out .entry)) (now (out .exit))) ⌝ }
 {
     let mut one = [0u8; 513];
     let mut other = [0u8; 513];
@@ -131,7 +138,9 @@ fn run_record(
 // The run of a cleared book: "11, 9".
 fn run_cleared(book: &[u8], places: Book, record: &[u8], budget: u64, out: &mut [u8]) -> RunReply
     requires { ⌜ Runnable (now book) places ⌝ }
-    ensures { λ r. ⌜ RunsTo (ranCleared (bookAt (now (book .entry)) places) (now («record» .entry)) budget (length (now (out .entry)))) r (now (out .entry)) (now (out .exit)) ⌝ }
+    ensures { λ r.
+        ⌜ RunsTo (ranCleared (bookAt (now (book .entry)) places) (now («record» .entry)) budget (length (now (out .entry))))
+        r (now (out .entry)) (now (out .exit)) ⌝ }
 {
     let symbols = places.symbols;
     let arities = places.arities;
@@ -150,7 +159,9 @@ fn run_cleared(book: &[u8], places: Book, record: &[u8], budget: u64, out: &mut 
 // Runs a record under a book that the ranks clear, against a budget. The start of the lent buffer then holds the term reached with its end
 // record; a refusal leaves it untouched.
 pub fn run(book: &[u8], ranks: &[u8], record: &[u8], budget: u64, out: &mut [u8]) -> RunReply
-    ensures { λ r. ⌜ RunsTo (run (now (book .entry)) (now (ranks .entry)) (now («record» .entry)) budget (length (now (out .entry)))) r (now (out .entry)) (now (out .exit)) ⌝ }
+    ensures { λ r.
+        ⌜ RunsTo (run (now (book .entry)) (now (ranks .entry)) (now («record» .entry)) budget (length (now (out .entry))))
+        r (now (out .entry)) (now (out .exit)) ⌝ }
 {
     let read = book::read_book(book);
     let verdict = read.verdict;

@@ -33,7 +33,9 @@ pub fn step(book: &[u8], places: Book, bytes: &[u8], left: u64, out: &mut [u8]) 
     requires { ⌜ Whole (now bytes) (places .arities) ⌝ }
     requires { ⌜ length (now bytes) ≤ 512 ⌝ }
     requires { ⌜ 512 ≤ length (now out) ⌝ }
-    ensures { λ r. ⌜ ((t : Term) → At (now (bytes .entry)) (places .arities) 0 t (length (now (bytes .entry))) → Tells r (places .arities) (rulesIn (now (book .entry)) places) t left (now (out .entry)) (now (out .exit))) ⌝ }
+    ensures { λ r.
+        ⌜ ((t : Term) → At (now (bytes .entry)) (places .arities) 0 t (length (now (bytes .entry))) →
+        Tells r (places .arities) (rulesIn (now (book .entry)) places) t left (now (out .entry)) (now (out .exit))) ⌝ }
 {
     let place = first_place(book, places, bytes);
     if !place.fit.table.fits {

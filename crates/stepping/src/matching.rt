@@ -55,7 +55,9 @@ fn meet(bytes: &[u8], arities: [u8; 16], table: Match, x: usize, place: usize) -
 pub fn begins_alike(book: &[u8], left: usize, bytes: &[u8], at: usize) -> bool
     requires { ⌜ left + 1 < length (now book) ⌝ }
     requires { ⌜ at + 1 < length (now bytes) ⌝ }
-    ensures { λ r. ⌜ ((arities : List ℕ) (l s : Term) (d e : ℕ) → At (now (book .entry)) arities left l d → At (now (bytes .entry)) arities at s e → r ≡ beginsAlike l s) ⌝ }
+    ensures { λ r.
+        ⌜ ((arities : List ℕ) (l s : Term) (d e : ℕ) → At (now (book .entry)) arities left l d → At (now (bytes .entry)) arities at s e →
+        r ≡ beginsAlike l s) ⌝ }
 {
     if book[left] != 3 {
         return true;
@@ -77,7 +79,9 @@ pub fn matched(
 ) -> Match
     requires { ⌜ LeftAt (now book) arities «left_at» «left_end» ⌝ }
     requires { ⌜ Standing (now bytes) arities at ⌝ }
-    ensures { λ r. ⌜ ((l s : Term) (e : ℕ) → At (now (book .entry)) arities «left_at» l «left_end» → At (now (bytes .entry)) arities at s e → Holds (now (bytes .entry)) arities l s r) ⌝ }
+    ensures { λ r.
+        ⌜ ((l s : Term) (e : ℕ) → At (now (book .entry)) arities «left_at» l «left_end» → At (now (bytes .entry)) arities at s e →
+        Holds (now (bytes .entry)) arities l s r) ⌝ }
 {
     let mut table = nothing_bound();
     let mut left = left_at;

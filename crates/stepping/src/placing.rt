@@ -28,7 +28,9 @@ pub fn first_rule(
 ) -> Fit
     requires { ⌜ Lefts (now book) arities rules (now «left_at») (now «left_nodes») ⌝ }
     requires { ⌜ Standing (now bytes) arities at ⌝ }
-    ensures { λ r. ⌜ ((rs : List Rule) (s : Term) (e : ℕ) → LeftsAt (now (book .entry)) arities rules (now («left_at» .entry)) (now («left_nodes» .entry)) rs → At (now (bytes .entry)) arities at s e → FirstRule (now (bytes .entry)) arities rs s r) ⌝ }
+    ensures { λ r.
+        ⌜ ((rs : List Rule) (s : Term) (e : ℕ) → LeftsAt (now (book .entry)) arities rules (now («left_at» .entry)) (now («left_nodes» .entry)) rs →
+        At (now (bytes .entry)) arities at s e → FirstRule (now (bytes .entry)) arities rs s r) ⌝ }
 {
     let mut rule = 0;
     while rule < rules {
@@ -53,7 +55,9 @@ pub fn first_rule(
 pub fn first_place(book: &[u8], places: Book, bytes: &[u8]) -> Place
     requires { ⌜ ReadFrom (now book) places ⌝ }
     requires { ⌜ Whole (now bytes) (places .arities) ⌝ }
-    ensures { λ r. ⌜ ((t : Term) → At (now (bytes .entry)) (places .arities) 0 t (length (now (bytes .entry))) → FirstPlace (now (bytes .entry)) (places .arities) (rulesIn (now (book .entry)) places) t r) ⌝ }
+    ensures { λ r.
+        ⌜ ((t : Term) → At (now (bytes .entry)) (places .arities) 0 t (length (now (bytes .entry))) →
+        FirstPlace (now (bytes .entry)) (places .arities) (rulesIn (now (book .entry)) places) t r) ⌝ }
 {
     let rules = places.rules;
     let left_at = places.left_at;
