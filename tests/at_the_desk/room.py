@@ -91,6 +91,9 @@ PROGRAMS = {
     "rewrites_book": "printf '\\005' >\"$BOOK\"\nprintf 's SATISFIABLE\\nv 1 -3 0\\n'\n",
     "locks_its_folder": "mkdir a a/b && touch a/b/c && chmod 000 a/b a\nprintf 's SATISFIABLE\\nv 1 -3 0\\n'\n",
     "lists": "ls -A >\"$LISTED\"; pwd >>\"$LISTED\"; ls -ld . >>\"$LISTED\"\nprintf 's SATISFIABLE\\nv 1 -3 0\\n'\n",
+    # a pipe that holds all of it, and an end at once: the most is read after the end
+    "at_the_last_moment": "exec python3 -c 'import fcntl, os\nfcntl.fcntl(1, 1031, 1 << 20)\n"
+                          "os.write(1, b\"c so it goes\\n\" * 20000 + b\"s SATISFIABLE\\nv 1 -3 0\\n\")\nos._exit(10)'\n",
     "late": "sleep 0.5\nprintf 's SATISFIABLE\\nv 1 -3 0\\n'\nsleep 0.5\n",
 }
 

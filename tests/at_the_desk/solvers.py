@@ -45,6 +45,7 @@ def bad_solvers():
         room.clears("one_rule.book.ranks", "clear", "one_rule.book", "--solver", "./chats")
         room.clears("one_rule.book.ranks", "clear", "one_rule.book", "--solver", "./locks_its_folder")
         room.clears("one_rule.book.ranks", "clear", "one_rule.book", "--solver", "./late")
+        room.clears("one_rule.book.ranks", "clear", "one_rule.book", "--solver", "./at_the_last_moment")
         room.expect(1, "refused 8 at 0", "rule 0: f0(x0) -> f1(x0)", "clear", "one_rule.book", "--solver", "./in_place")
         book = room.read("one_rule.book")
         ran = room.expect(2, "", "one_rule.book was changed while it was being cleared; no ranks are left. Clear it again",
