@@ -44,12 +44,11 @@ pub fn arguments_at(bytes: &[u8], arities: [u8; 16], at: usize) -> usize
     requires { ⌜ Standing (now bytes) arities at ⌝ }
     ensures { λ r. ⌜ ((t : Term) (e : ℕ) → At (now (bytes .entry)) arities at t e → r ≡ count (arguments t)) ⌝ }
 {
-    if bytes[at] == 3 {
-        let symbol = wide(bytes[at + 1]);
-        wide(arities[symbol])
-    } else {
-        0
+    if bytes[at] != 3 {
+        return 0;
     }
+    let symbol = wide(bytes[at + 1]);
+    wide(arities[symbol])
 }
 
 // The place behind the term that stands at this place. `missing` subterms are still to come: a node is one of them and brings
