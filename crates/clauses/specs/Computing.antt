@@ -3,7 +3,29 @@ use mathlib.Core.List.{flatMap, flatten}
 use Rattle.order.specs.Computing
 use Rattle.clauses.specs.Cnf.{holds, someHolds, allHold, Satisfies}
 use Rattle.clauses.specs.Numbering.{bit, pairNumber, G, firstBase, baseAfter, C, D, numbers, rankBelow, ranksOf}
-use Rattle.clauses.specs.Blocks.{lowestBit, higherBit, pairClauses, pairBlock, pairBlocksOf, pairBlocks, numberedArgs, subterms, CAt, DAt, partsBehind, partsOfD, partsOfC, someIdentical, clausesOfC, nodeBlock, ruleBlocks, rulesBlocks, blocks, baseBehind, «V»}
+use Rattle.clauses.specs.Blocks.{
+  lowestBit,
+  higherBit,
+  pairClauses,
+  pairBlock,
+  pairBlocksOf,
+  pairBlocks,
+  numberedArgs,
+  subterms,
+  CAt,
+  DAt,
+  partsBehind,
+  partsOfD,
+  partsOfC,
+  someIdentical,
+  clausesOfC,
+  nodeBlock,
+  ruleBlocks,
+  rulesBlocks,
+  blocks,
+  baseBehind,
+  «V»,
+}
 use Rattle.clauses.specs.Wholes.{allParts, someParts}
 use Rattle.clauses.specs.File.{
   clauseFile,

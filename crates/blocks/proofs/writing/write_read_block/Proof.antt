@@ -2,6 +2,7 @@
 -- the whole block. Assumes nothing.
 use mathlib.Core.List.{[], _∷_}
 use mathlib.Core.Path.{_≡_, subst}
+use native.Mathlib.Omega.{arith}
 use denote.Enum.Declared.{tagOf, declared}
 use types.Run.{OneOf, miss}
 use Rattle.book.specs.Meaning.{bookAt}
@@ -39,7 +40,7 @@ returns-2 c =
     let bytes = start .args .bytes .now in
     let found = c .before .before .find-block in
     let (text, there) = some-text bytes (start .args .book) (start .args .number) (found .result) (found .ensures bytes (start .pre)) (somewhere (found .result) (c .before .match .keys2)) in
-    short-buffer (bookAt bytes (start .args .book)) (start .args .number) (start .args .out .now) there (c .if1 .taken)
+    short-buffer (bookAt bytes (start .args .book)) (start .args .number) (start .args .out .now) there (omega (arith, c .if1 .taken))
 
 write-place-requires : tie.Need-write-place-requires
 write-place-requires c κs =
@@ -56,7 +57,7 @@ returns-3 c =
     let found = c .before .before .before .before .before .before .find-block in
     let finds = found .ensures bytes (start .pre) in
     let (text, there) = some-text bytes (start .args .book) (start .args .number) (found .result) finds (somewhere (found .result) (c .before .before .before .before .before .match .keys2)) in
-    block-laid (bookAt bytes (start .args .book)) (start .args .number) (start .args .out .now) there (read-limits (start .pre)) (c .before .before .before .before .if1 .left)
+    block-laid (bookAt bytes (start .args .book)) (start .args .number) (start .args .out .now) there (read-limits (start .pre)) (omega (arith, c .before .before .before .before .if1 .left))
     (c .before .before .write-place .ensures (start .args .number) text finds there)
 
 pub write-read-block-spec : {M : Type 1} → statement M
