@@ -179,7 +179,7 @@ class Programs:
             status = children.run(self._runner() + [self.path(name)], given=given, take=reply)
         except OSError as error:
             raise broken(f"the program {name} cannot be run: {reason(error)}") from None
-        if status != 0 or reply.enough or not reply.text.endswith(b"\n"):
+        if status != 0 or reply.enough:
             raise broken(f"the program {name} did not end well (status {status})")
         return bytes(reply.text)
 
