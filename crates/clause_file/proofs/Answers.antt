@@ -5,24 +5,20 @@ use mathlib.Core.Option.{Option, none, some}
 use mathlib.Core.Path.{_≡_, refl, sym, ap, _∙_}
 use native.Mathlib.Decide.{decLt}
 use native.Mathlib.Omega.{arith}
-use denote.Enum.Declared.{tagOf, declared}
-use types.Run.{OneOf, miss}
 use lib.ListN.{length, drop, getElem?, length-map}
-use Rattle.reply.specs.Reply.{Refusal, Reply, given, refused, _>>_, _at_}
+use Rattle.reply.specs.Reply.{Refusal, Reply, given, refused}
+use Rattle.reply.specs.Refusals.{numbered}
+use Rattle.reply.specs.declared.Refusal.{Refusal as Named}
 use Rattle.reply.specs.Lent.{laid, lengthOf}
 use Rattle.book.specs.Book.{Book}
-use Rattle.book.specs.Meaning.{told}
-use Rattle.book.specs.declared.BookVerdict.the-variants.{Readable, Ended, UnknownKind, NotAllowed, BadBody, TooMany, AfterEnd}
-use Rattle.order.specs.Meaning.{refusalOnly}
 use Rattle.clauses.specs.File.{clauseBytes, fileBlocks, blockOf}
 use Rattle.blocks.specs.Written.{writtenMeaning}
 use Rattle.blocks.specs.declared.Written.{Written}
-use Rattle.blocks.specs.declared.Written.the-variants.{Laid, Unreadable, NoBlock, ShortBuffer}
+use Rattle.blocks.specs.declared.Written.the-variants.{Laid, Refused}
 use Rattle.book.specs.Limits.{WithinLimits}
 use Rattle.clauses.proofs.Counts.{blocks-counted}
 use Rattle.clauses.specs.Blocks.{blocks}
 use Rattle.clauses.proofs.BlockReply.{no-block, short-room, its-text}
-use Rattle.blocks.proofs.Written.{enum}
 use Rattle.clause_file.specs.Filling.{fitting}
 use Rattle.clause_file.proofs.Fitting.{fitting-short, fitting-none}
 
@@ -31,18 +27,9 @@ pub record Refuses (r : Written) : Type 0 where
   pub why : Refusal
   pub means : writtenMeaning r ≡ refused why
 
-pub refuses : (r : Written) → OneOf (1 ∷ 2 ∷ 3 ∷ []) (tagOf (declared enum) r) → Refuses r
-unfolding writtenMeaning told refusalOnly _>>_
-refuses (Laid many) h = absurd (miss (1 ∷ 2 ∷ 3 ∷ []) 0 tt h)
-refuses (Unreadable Readable) h = record { why = 0 at 0; means = refl }
-refuses (Unreadable (Ended p)) h = record { why = 1 at p; means = refl }
-refuses (Unreadable (UnknownKind p)) h = record { why = 2 at p; means = refl }
-refuses (Unreadable (NotAllowed p)) h = record { why = 3 at p; means = refl }
-refuses (Unreadable (BadBody p)) h = record { why = 4 at p; means = refl }
-refuses (Unreadable (TooMany p)) h = record { why = 5 at p; means = refl }
-refuses (Unreadable (AfterEnd p)) h = record { why = 6 at p; means = refl }
-refuses NoBlock h = record { why = 10 at 0; means = refl }
-refuses ShortBuffer h = record { why = 9 at 0; means = refl }
+pub refuses : (r : Written) (why : Named) → r ≡ Refused why → Refuses r
+unfolding writtenMeaning
+refuses r why is = record { why = numbered why; means = ap writtenMeaning is }
 
 -- A refusal lays nothing.
 pub nothing-laid : (x : Reply (List ℕ)) (why : Refusal) {buffer after : List ℕ} → refused why ≡ lengthOf x → after ≡ laid x buffer → after ≡ buffer

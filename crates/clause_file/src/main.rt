@@ -5,6 +5,8 @@ use book::Book;
 use book::BookVerdict;
 use libc::STDIN_FILENO;
 use libc::STDOUT_FILENO;
+use reply::Refusal;
+use reply_lines::write_refused;
 ghost use mathlib.Core.Path.{_≡_};
 ghost use Prim.Native.Nat.{_≤_};
 ghost use lib.ListN.{length, drop};
@@ -54,31 +56,28 @@ fn print_file(bytes: &[u8], book: Book, out: &mut [u8]) -> usize
     }
 }
 
-fn print_refusal(number: u64, place: usize) {
-    io::write_all(STDOUT_FILENO, b"refused ");
-    io::print_decimal(STDOUT_FILENO, number);
-    io::write_all(STDOUT_FILENO, b" at ");
-    io::print_decimal(STDOUT_FILENO, place as u64);
-    io::write_all(STDOUT_FILENO, b"\n");
+// Why a book cannot be read.
+fn print_refused(refusal: Refusal) {
+    let mut out = [0u8; 64];
+    let n = write_refused(refusal, &mut out);
+    io::write_all(STDOUT_FILENO, &out[..n]);
 }
 
-// Why a book cannot be read.
-fn print_verdict(verdict: BookVerdict) {
-    let refused = book::refused_by(verdict);
-    print_refusal(refused.number, refused.place);
+fn print_blocks(bytes: &[u8], book: Book)
+    requires { ⌜ ReadFrom (now bytes) book ⌝ }
+{
+    let mut out = io::large_buffer();
+    print_file(bytes, book, &mut out);
 }
 
 // What is printed for the bytes of a book.
 fn print_for(bytes: &[u8]) {
     let read = book::read_book(bytes);
     let verdict = read.verdict;
-    let BookVerdict::Readable = verdict else {
-        print_verdict(verdict);
-        return;
-    };
-    let book = read.book;
-    let mut out = io::large_buffer();
-    print_file(bytes, book, &mut out);
+    match verdict {
+        BookVerdict::Readable => print_blocks(bytes, read.book),
+        BookVerdict::Refused(refusal) => print_refused(refusal),
+    }
 }
 
 // The longest book has 1,345 bytes: 16 symbols of 2, 32 rules of 41 and the end. One byte more is enough of any input: the first 1,346

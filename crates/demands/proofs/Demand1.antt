@@ -8,12 +8,15 @@ use mathlib.Core.Path.{_≡_, refl, ap}
 use lib.Dec.{T, leb, eqb, eqb→eq}
 use lib.ListN.{length, getD}
 use Rattle.reply.specs.Reply.{Refusal, Attempt, Reply, given, refused, unless, toldAs, _>>_, _>>=_, _at_}
+use Rattle.reply.specs.Refusals.{numbered}
 use Rattle.reply.specs.Lent.{laid}
 use Rattle.term.specs.Term.{Term, Args, var, app, nil, cons, size}
 use Rattle.reply.proofs.Tests.{and-left, and-right}
 use Rattle.book.specs.Book.{Book, Rule}
 use Rattle.book.specs.Reading.{readBook}
-use Rattle.book.specs.Record.{Fault, endedEarly, wrongKind, notDeclared, tooManyNodes, afterTheTerm, refusalOf, readRecord}
+use Rattle.book.specs.Record.{faultRefusal, refusalOf, readRecord}
+use Rattle.book.specs.declared.RecordFault.{RecordFault}
+use Rattle.book.specs.declared.RecordFault.the-variants.{EndedEarly, WrongKind, NotDeclared, TooManyNodes, AfterTheTerm}
 use Rattle.book.proofs.Refusals.{read-refuses}
 use Rattle.order.specs.Clearing.{allDecrease, ranksClear, checkRanks}
 use Rattle.clauses.specs.Cnf.{Literal}
@@ -135,15 +138,15 @@ unfolding checkRanks
 check-only book ranks = after (more _ tt (book-only book)) (λ b. more _ tt (clear-only b ranks))
 
 -- Reading a record.
-fault-number : (fault : Fault) → (refusalOf fault) .number ≡ 11
-unfolding refusalOf
-fault-number (endedEarly p) = refl
-fault-number (wrongKind p) = refl
-fault-number (notDeclared p) = refl
-fault-number (tooManyNodes p) = refl
-fault-number (afterTheTerm p) = refl
+fault-number : (fault : RecordFault) → (refusalOf fault) .number ≡ 11
+unfolding refusalOf faultRefusal numbered
+fault-number (EndedEarly p) = refl
+fault-number (WrongKind p) = refl
+fault-number (NotDeclared p) = refl
+fault-number (TooManyNodes p) = refl
+fault-number (AfterTheTerm p) = refl
 
-told-only : {A : Type 0} (x : Attempt Fault A) → Only (11 ∷ []) (toldAs refusalOf x)
+told-only : {A : Type 0} (x : Attempt RecordFault A) → Only (11 ∷ []) (toldAs refusalOf x)
 unfolding toldAs
 told-only (given a) = result
 told-only (refused fault) = refusal (List·Memᴰ·head (fault-number fault))

@@ -1,36 +1,28 @@
 -- What a book comes to, by what reading it found: its counts, or its refusal. Assumes nothing.
 use Prim.Native.Nat.{ℕ}
 use mathlib.Core.List.{List}
-use mathlib.Core.Path.{_≡_, refl, sym, ap, _∙_}
+use mathlib.Core.Path.{_≡_, sym, ap, _∙_}
 use lib.ListN.{length}
-use Rattle.reply.specs.Reply.{Reply, given, refused, _>>=_}
-use Rattle.book.specs.Book.{Book}
+use Rattle.reply.specs.Reply.{given, refused}
+use Rattle.reply.specs.Refusals.{numbered}
+use Rattle.reply.specs.declared.Refusal.{Refusal as Named}
 use Rattle.book.specs.Reading.{readBook}
-use Rattle.book.specs.Meaning.{bookAt, meaning}
-use Rattle.book.specs.declared.Book.{Book as Places}
-use Rattle.book.specs.declared.ReadBook.{ReadBook}
-use Rattle.clauses.specs.File.{fileBlocks}
+use Rattle.book.specs.Meaning.{bookAt}
+use Rattle.book.specs.Placed.{placed}
 use Rattle.book.specs.WasRead.{ReadFrom}
-use Rattle.book.proofs.WasRead.{read-given, read-stands}
+use Rattle.book.specs.declared.Book.{Book as Places}
+use Rattle.book.specs.declared.BookVerdict.the-variants.{Refused}
+use Rattle.book.specs.declared.ReadBook.{ReadBook}
+use Rattle.book.proofs.WasRead.{read-refused, read-given, read-stands}
+use Rattle.clauses.specs.File.{fileBlocks}
 use Rattle.blocks.proofs.RulesWalk.{read-symbols}
-use Rattle.rewriting.specs.Asked.{unreadable}
-use Rattle.rewriting.proofs.Questions.{Refuses, book-refused}
-use Rattle.rulebook.specs.Replies.{verdictReply, bookReply}
-use Rattle.rulebook.specs.declared.replies.Verdict.{Verdict}
-use Rattle.rulebook.proofs.Unreadable.{refusedFor, unreadable-refused}
-
-given-again : {A : Type 0} (reply : Reply A) → _>>=_ reply given ≡ reply
-unfolding _>>=_
-given-again (given a) = refl
-given-again (refused r) = refl
+use Rattle.rulebook.specs.Replies.{bookReply}
 
 -- The book was not read.
 pub book-not-read :
-    (bytes : List ℕ) (read : ReadBook) (reason : Verdict) → meaning bytes read ≡ readBook bytes → Refuses (read .verdict) →
-    reason ≡ verdictReply (unreadable (read .verdict)) → bookReply (refusedFor reason) ≡ bookReply (readBook bytes)
-book-not-read bytes read reason means refuses is =
-    ap (λ (v : Verdict). bookReply (refusedFor v)) is
-    ∙ ap bookReply (unreadable-refused (read .verdict) ∙ book-refused bytes read given means refuses ∙ given-again (readBook bytes))
+    (bytes : List ℕ) (read : ReadBook) (why : Named) → read ≡ placed bytes → read .verdict ≡ Refused why →
+    bookReply (refused (numbered why)) ≡ bookReply (readBook bytes)
+book-not-read bytes read why is refuses = sym (ap bookReply (read-refused bytes read is why refuses))
 
 -- The book was read.
 pub book-was-read :

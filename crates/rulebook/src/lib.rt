@@ -1,9 +1,8 @@
 // The boundary to C: a thin function for each entry point. include/rulebook.h declares them.
-mod counting;
 mod replies;
 
+use blocks::counting::count_blocks;
 use book::BookVerdict;
-use counting::count_blocks;
 pub use replies::BookReply;
 pub use replies::PartReply;
 pub use replies::RanReply;
@@ -13,7 +12,6 @@ use replies::no_book;
 use replies::of_answer;
 use replies::of_argument;
 use replies::of_block;
-use replies::of_book;
 use replies::of_ranks;
 use replies::of_run;
 ghost use mathlib.Core.Path.{_≡_};
@@ -35,9 +33,9 @@ pub extern "C" fn rulebook_read_book(book: &[u8]) -> BookReply
 {
     let read = book::read_book(book);
     let verdict = read.verdict;
-    let BookVerdict::Readable = verdict else {
-        return no_book(of_book(verdict));
-    };
+    if let BookVerdict::Refused(refusal) = verdict {
+        return no_book(refusal);
+    }
     let places = read.book;
     BookReply {
         refusal: 0,

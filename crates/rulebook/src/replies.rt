@@ -1,17 +1,18 @@
 // Replies as C reads them: refusal 0 if the input was taken, else document 01's number and place, and then every other field is 0.
 use answer::Answered;
 use blocks::Written;
-use book::BookVerdict;
 use order::RanksVerdict;
+use reply::Refusal;
 use rewriting::asking::ArgumentReply;
 use rewriting::running::Outcome;
 use rewriting::running::RunReply;
 ghost use mathlib.Core.Path.{_≡_};
-ghost use Rattle.reply.specs.Reply.{given, refused, _at_};
+ghost use Rattle.reply.specs.Reply.{given, refused};
+ghost use Rattle.reply.specs.Refusals.{numbered};
 ghost use Rattle.order.specs.Meaning.{ranksMeaning};
 ghost use Rattle.blocks.specs.Written.{writtenMeaning};
 ghost use Rattle.answer.specs.Answered.{answeredMeaning};
-ghost use Rattle.rewriting.specs.Asked.{unreadable, argumentMeaning};
+ghost use Rattle.rewriting.specs.Asked.{argumentMeaning};
 ghost use Rattle.rewriting.specs.RunMeaning.{runMeaning};
 ghost use Rattle.stepping.specs.Stepped.{outcomeOf};
 ghost use Rattle.rulebook.specs.Replies.{verdictReply, bookReply, writtenReply, outcomeNumber, ranReply, partReply};
@@ -56,27 +57,21 @@ pub struct PartReply {
 }
 
 // A refusal: its number and its place.
-fn refuse(number: u64, place: usize) -> Verdict
-    ensures { λ r. ⌜ r ≡ verdictReply (refused (number at place)) ⌝ }
+fn refuse(refusal: Refusal) -> Verdict
+    ensures { λ r. ⌜ r ≡ verdictReply (refused (numbered refusal)) ⌝ }
 {
+    let told = reply::numbered(refusal);
     Verdict {
-        refusal: number,
-        place: place as u64,
+        refusal: told.number,
+        place: told.place as u64,
     }
 }
 
-// The refusal of a book that cannot be read, 1 to 6. (A readable book has none; no number is 0.)
-pub fn of_book(verdict: BookVerdict) -> Verdict
-    ensures { λ r. ⌜ r ≡ verdictReply (unreadable verdict) ⌝ }
-{
-    let refused = book::refused_by(verdict);
-    refuse(refused.number, refused.place)
-}
-
 // A book that was not read: the refusal, and no symbols, rules or blocks.
-pub fn no_book(reason: Verdict) -> BookReply
-    ensures { λ r. ⌜ r ≡ bookReply (refused (reason .refusal at reason .place)) ⌝ }
+pub fn no_book(refusal: Refusal) -> BookReply
+    ensures { λ r. ⌜ r ≡ bookReply (refused (numbered refusal)) ⌝ }
 {
+    let reason = refuse(refusal);
     BookReply {
         refusal: reason.refusal,
         place: reason.place,
@@ -86,7 +81,6 @@ pub fn no_book(reason: Verdict) -> BookReply
     }
 }
 
-// "ranks 7, 8".
 pub fn of_ranks(verdict: RanksVerdict) -> Verdict
     ensures { λ r. ⌜ r ≡ verdictReply (ranksMeaning verdict) ⌝ }
 {
@@ -95,16 +89,15 @@ pub fn of_ranks(verdict: RanksVerdict) -> Verdict
             refusal: 0,
             place: 0,
         },
-        RanksVerdict::Unreadable(book) => of_book(book),
-        RanksVerdict::WrongCount => refuse(7, 0),
-        RanksVerdict::NotDecreasing(rule) => refuse(8, rule),
+        RanksVerdict::Refused(refusal) => refuse(refusal),
     }
 }
 
 // Nothing was written: the refusal alone.
-fn not_written(reason: Verdict) -> WrittenReply
-    ensures { λ r. ⌜ r ≡ writtenReply (refused (reason .refusal at reason .place)) ⌝ }
+fn not_written(refusal: Refusal) -> WrittenReply
+    ensures { λ r. ⌜ r ≡ writtenReply (refused (numbered refusal)) ⌝ }
 {
+    let reason = refuse(refusal);
     WrittenReply {
         refusal: reason.refusal,
         place: reason.place,
@@ -123,30 +116,21 @@ fn written(length: usize) -> WrittenReply
     }
 }
 
-// "block 10, 9".
 pub fn of_block(block: Written) -> WrittenReply
     ensures { λ r. ⌜ r ≡ writtenReply (writtenMeaning block) ⌝ }
 {
     match block {
         Written::Laid(length) => written(length),
-        Written::Unreadable(book) => not_written(of_book(book)),
-        Written::NoBlock => not_written(refuse(10, 0)),
-        Written::ShortBuffer => not_written(refuse(9, 0)),
+        Written::Refused(refusal) => not_written(refusal),
     }
 }
 
-// "answer 12, 13, 14, 9, 8".
 pub fn of_answer(answer: Answered) -> WrittenReply
     ensures { λ r. ⌜ r ≡ writtenReply (answeredMeaning answer) ⌝ }
 {
     match answer {
         Answered::Accepted(ranks) => written(ranks),
-        Answered::Unreadable(book) => not_written(of_book(book)),
-        Answered::TooLong => not_written(refuse(12, 0)),
-        Answered::Malformed(place) => not_written(refuse(13, place)),
-        Answered::NoModel => not_written(refuse(14, 0)),
-        Answered::ShortBuffer => not_written(refuse(9, 0)),
-        Answered::NotDecreasing(rule) => not_written(refuse(8, rule)),
+        Answered::Refused(refusal) => not_written(refusal),
     }
 }
 
@@ -162,9 +146,10 @@ fn outcome_number(outcome: Outcome) -> u64
 }
 
 // There was no run: the refusal alone.
-fn not_run(reason: Verdict) -> RanReply
-    ensures { λ r. ⌜ r ≡ ranReply (refused (reason .refusal at reason .place)) ⌝ }
+fn not_run(refusal: Refusal) -> RanReply
+    ensures { λ r. ⌜ r ≡ ranReply (refused (numbered refusal)) ⌝ }
 {
+    let reason = refuse(refusal);
     RanReply {
         refusal: reason.refusal,
         place: reason.place,
@@ -174,7 +159,6 @@ fn not_run(reason: Verdict) -> RanReply
     }
 }
 
-// "run 7, 8, 11, 9".
 pub fn of_run(reply: RunReply) -> RanReply
     ensures { λ r. ⌜ r ≡ ranReply (runMeaning reply) ⌝ }
 {
@@ -190,18 +174,15 @@ pub fn of_run(reply: RunReply) -> RanReply
             steps,
             length: length as u64,
         },
-        RunReply::Unreadable(book) => not_run(of_book(book)),
-        RunReply::WrongCount => not_run(refuse(7, 0)),
-        RunReply::NotDecreasing(rule) => not_run(refuse(8, rule)),
-        RunReply::Malformed => not_run(refuse(11, 0)),
-        RunReply::ShortBuffer => not_run(refuse(9, 0)),
+        RunReply::Refused(refusal) => not_run(refusal),
     }
 }
 
 // No part is handed out: the refusal alone.
-fn no_part(reason: Verdict) -> PartReply
-    ensures { λ r. ⌜ r ≡ partReply (refused (reason .refusal at reason .place)) ⌝ }
+fn no_part(refusal: Refusal) -> PartReply
+    ensures { λ r. ⌜ r ≡ partReply (refused (numbered refusal)) ⌝ }
 {
+    let reason = refuse(refusal);
     PartReply {
         refusal: reason.refusal,
         place: reason.place,
@@ -210,7 +191,6 @@ fn no_part(reason: Verdict) -> PartReply
     }
 }
 
-// "argument 11, 15".
 pub fn of_argument(reply: ArgumentReply) -> PartReply
     ensures { λ r. ⌜ r ≡ partReply (argumentMeaning reply) ⌝ }
 {
@@ -221,8 +201,6 @@ pub fn of_argument(reply: ArgumentReply) -> PartReply
             start: start as u64,
             length: length as u64,
         },
-        ArgumentReply::Unreadable(book) => no_part(of_book(book)),
-        ArgumentReply::Malformed => no_part(refuse(11, 0)),
-        ArgumentReply::NoSuchArgument => no_part(refuse(15, 0)),
+        ArgumentReply::Refused(refusal) => no_part(refusal),
     }
 }

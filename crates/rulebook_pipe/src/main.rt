@@ -13,12 +13,95 @@
 //
 // A reply is the one line `refused N at P`, or the lines of its call in replies.rt. Another letter is answered by the line `not a request`;
 // so is a header without its four numbers, and that is the end.
-mod input;
+mod parts;
 mod replies;
-mod show;
-mod terms;
 
-use input::Header;
+use libc::STDIN_FILENO;
+use libc::STDOUT_FILENO;
+use text::reading::Number;
+use text::reading::grown;
+
+// The call's letter, 0 at the end of the input; the request's number, the lengths of its parts, and whether all of them were there.
+struct Header {
+    call: u8,
+    number: usize,
+    book: usize,
+    text: usize,
+    record: usize,
+    whole: bool,
+}
+
+// The next byte, 0 at the end of the input.
+fn byte() -> u8 {
+    let mut one = [0u8; 1];
+    let got = libc::read(STDIN_FILENO, &mut one);
+    if got == 1 { one[0] } else { 0 }
+}
+
+// A number of the header below 2^64: the digits up to the next byte that is none; that byte is passed over too.
+fn read_number() -> Number {
+    let mut value: usize = 0;
+    let mut digits: usize = 0;
+    while digits < 21 {
+        let next = byte();
+        if next < b'0' || b'9' < next {
+            if digits == 0 {
+                return Number::Missing;
+            }
+            return Number::Is(value);
+        }
+        let Number::Is(more) = grown(value, next, usize::MAX) else {
+            return Number::Missing;
+        };
+        value = more;
+        digits += 1;
+    }
+    Number::Missing
+}
+
+// A header of which only the letter can be used.
+fn broken(call: u8) -> Header {
+    Header {
+        call,
+        number: 0,
+        book: 0,
+        text: 0,
+        record: 0,
+        whole: false,
+    }
+}
+
+fn read_header() -> Header {
+    let call = byte();
+    byte();
+    let Number::Is(number) = read_number() else {
+        return broken(call);
+    };
+    let Number::Is(book) = read_number() else {
+        return broken(call);
+    };
+    let Number::Is(text) = read_number() else {
+        return broken(call);
+    };
+    let Number::Is(record) = read_number() else {
+        return broken(call);
+    };
+    Header {
+        call,
+        number,
+        book,
+        text,
+        record,
+        whole: true,
+    }
+}
+
+// Writes the reply to a call on these parts. The longest, of a full book's rules, has fewer than 8,192 bytes.
+fn answer(call: u8, number: usize, book: &[u8], text: &[u8], record: &[u8]) {
+    let mut out = [0u8; 8192];
+    let n = replies::lay(call, number as u64, book, text, record, &mut out);
+    io::write_all(STDOUT_FILENO, &out[..n]);
+}
 
 // Answers the request whose header was read. Of each part only the first bytes are kept: one byte more than any book, answer or record
 // that is taken has. What lies behind them changes no reply. A book of more than 1,345 bytes is refused at a record that stands within its
@@ -28,10 +111,10 @@ fn answer_to(header: Header) {
     let mut book_space = [0u8; 1346];
     let mut text_space = [0u8; 65537];
     let mut record_space = [0u8; 514];
-    let b = input::read_part(header.book, &mut book_space);
-    let t = input::read_part(header.text, &mut text_space);
-    let r = input::read_part(header.record, &mut record_space);
-    replies::reply(
+    let b = parts::read_part(header.book, &mut book_space);
+    let t = parts::read_part(header.text, &mut text_space);
+    let r = parts::read_part(header.record, &mut record_space);
+    answer(
         header.call,
         header.number,
         &book_space[..b],
@@ -42,12 +125,12 @@ fn answer_to(header: Header) {
 
 // One request; whether the input goes on behind it.
 fn request() -> bool {
-    let header = input::read_header();
+    let header = read_header();
     if header.call == 0 {
         return false;
     }
     if !header.whole {
-        show::text(b"not a request\n");
+        io::write_all(STDOUT_FILENO, b"not a request\n");
         return false;
     }
     answer_to(header);

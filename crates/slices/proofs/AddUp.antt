@@ -6,12 +6,12 @@ use mathlib.Core.List.{List, [], _∷_}
 use mathlib.Core.Option.{Option, none, some}
 use mathlib.Core.Path.{_≡_, refl, sym, ap, ap₂, subst, subst₂, _∙_}
 use native.Mathlib.Omega.{arith}
-use denote.Enum.Declared.{tagOf}
-use types.Run.{OneOf, miss}
 use lib.Dec.{leb}
 use lib.ListN.{length, take, length-take}
 use lib.Seq.{take-append-seam}
 use Rattle.reply.specs.Reply.{Attempt, Refusal, Reply, given, refused, unless, _>>_, _>>=_, _at_}
+use Rattle.reply.specs.Refusals.{numbered}
+use Rattle.reply.specs.declared.Refusal.{Refusal as Named}
 use Rattle.reply.specs.Lent.{laid}
 use Rattle.reply.proofs.Given.{refused-not-given, given-not-refused}
 use Rattle.term.specs.Term.{Term, size}
@@ -19,19 +19,15 @@ use Rattle.term.specs.Prefix.{recordBytes}
 use Rattle.book.specs.Book.{Book, Rule}
 use Rattle.book.specs.Reading.{readBook}
 use Rattle.book.specs.Record.{readRecord}
-use Rattle.book.specs.declared.BookVerdict.{BookVerdict}
 use Rattle.order.specs.Clearing.{ranksClear}
 use Rattle.steps.specs.Step.{stepOf}
 use Rattle.steps.specs.Run.{Outcome, done, spent, tooLarge, Ran, runFrom, ranCleared, run, ranBytes}
 use Rattle.rewriting.specs.RunMeaning.{Told, toldOf, runTold, runMeaning, RunsTo}
-use Rattle.rewriting.specs.Asked.{unreadable}
 use Rattle.stepping.specs.Stepped.{outcomeOf}
 use Rattle.rewriting.specs.declared.running.RunReply.{RunReply}
-use Rattle.rewriting.specs.declared.running.RunReply.the-variants.{RanTo, Unreadable, WrongCount, NotDecreasing, Malformed, ShortBuffer}
+use Rattle.rewriting.specs.declared.running.RunReply.the-variants.{RanTo, Refused}
 use Rattle.stepping.specs.declared.Outcome.the-variants.{Done, Spent, TooLarge}
-use Rattle.rewriting.proofs.running.RunReply.{the-type as run-reply}
 use Rattle.steps.proofs.Run.{run-done, run-spent, run-too-large, run-goes-on}
-use Rattle.rewriting.proofs.RanOn.{refusalIn, unread-refused}
 use Rattle.demands.specs.BudgetsAdd.{counting, carriedOn, BudgetsAdd}
 use Rattle.demands.proofs.BudgetsAdd.{run-budgets-add}
 use Rattle.demands.proofs.Demand3.{Accepted, accepted}
@@ -83,37 +79,16 @@ refused-alike :
     (bytes ranks record′ : Bytes) (a c room : ℕ) (r : Refusal) → run bytes ranks record′ a room ≡ refused r → run bytes ranks record′ c room ≡ refused r
 unfolding run ranCleared
 refused-alike bytes ranks record′ a c room r =
-    bind-alike r (readBook bytes) (λ b. _>>_ (ranksClear b ranks) (ranCleared b record′ a room)) (λ b. _>>_ (ranksClear b ranks) (ranCleared b record′ c room)) (λ b.
-    then-alike r (ranksClear b ranks) _ _
+    bind-alike r (readBook bytes) _ _ (λ b.
+    then-alike r (ranksClear b ranks) (ranCleared b record′ a room) (ranCleared b record′ c room)
     (bind-alike r (readRecord b record′) _ _ (λ t.
     then-alike r (unless (leb 513 room) (9 at 0)) (given (runFrom (b .rules) a 0 t)) (given (runFrom (b .rules) c 0 t)) (λ h. absurd (given-not-refused _ r h)))))
 
--- How a reply of the code is told: an answer, or a refusal.
-unread-not-given : (verdict : BookVerdict) (told : Told) → _≡_ {A = Reply Told} (unreadable verdict) (given told) → ⊥
-unread-not-given verdict told e = refused-not-given (refusalIn verdict) told (sym (unread-refused verdict) ∙ e)
-
--- A reply that refuses.
-abbrev pub Refuses : RunReply → Type 0
-Refuses answer = OneOf (1 ∷ 2 ∷ 3 ∷ 4 ∷ 5 ∷ []) (tagOf run-reply answer)
-
--- It goes no further, and says nothing of steps.
-pub refused-ends : (answer : RunReply) → Refuses answer → Ended ≡ goingOf answer
-refused-ends (RanTo outcome steps size) refuses = absurd (miss (1 ∷ 2 ∷ 3 ∷ 4 ∷ 5 ∷ []) 0 tt refuses)
-refused-ends (Unreadable verdict) refuses = refl
-refused-ends WrongCount refuses = refl
-refused-ends (NotDecreasing rule) refuses = refl
-refused-ends Malformed refuses = refl
-refused-ends ShortBuffer refuses = refl
-
-pub refused-later : (made : ℕ) (answer : RunReply) → Refuses answer → runMeaning answer ≡ toldLater made (runMeaning answer)
+-- A refusal says nothing of steps.
+pub refused-later :
+    (made : ℕ) (answer : RunReply) (why : Named) → answer ≡ Refused why → runMeaning answer ≡ toldLater made (runMeaning answer)
 unfolding runMeaning toldLater _>>=_
-refused-later made (RanTo outcome steps size) refuses = absurd (miss (1 ∷ 2 ∷ 3 ∷ 4 ∷ 5 ∷ []) 0 tt refuses)
-refused-later made (Unreadable verdict) refuses =
-    unread-refused verdict ∙ ap (toldLater made) (sym (unread-refused verdict))
-refused-later made WrongCount refuses = refl
-refused-later made (NotDecreasing rule) refuses = refl
-refused-later made Malformed refuses = refl
-refused-later made ShortBuffer refuses = refl
+refused-later made answer why is = ap runMeaning is ∙ sym (ap (λ (a : RunReply). toldLater made (runMeaning a)) is)
 
 -- A run that was given and goes no further was not spent.
 not-spent : (answer : RunReply) (ran : Ran) → goingOf answer ≡ Ended → runMeaning answer ≡ given (toldOf ran) → ran .outcome ≡ spent → ⊥
@@ -129,11 +104,7 @@ not-spent (RanTo TooLarge steps size) ran ended e s =
     let q : _≡_ {A = Outcome} tooLarge spent = ap (λ (told : Told). told .outcome) o ∙ s in
     let z : _≡_ {A = ℕ} 0 1 = cc in
     omega arith
-not-spent (Unreadable verdict) ran ended e s = unread-not-given verdict (toldOf ran) e
-not-spent WrongCount ran ended e s = refused-not-given (7 at 0) (toldOf ran) e
-not-spent (NotDecreasing rule) ran ended e s = refused-not-given (8 at rule) (toldOf ran) e
-not-spent Malformed ran ended e s = refused-not-given (11 at 0) (toldOf ran) e
-not-spent ShortBuffer ran ended e s = refused-not-given (9 at 0) (toldOf ran) e
+not-spent (Refused why) ran ended e s = refused-not-given (numbered why) (toldOf ran) e
 
 -- What a call of the run leaves at the start of its buffer.
 run-holds :
@@ -251,11 +222,7 @@ module _ (bytes ranks record′ : Bytes) (a b : ℕ) where
       let l≡ : l ≡ size = cc going in
       subst₂ (λ (n m : ℕ). SpentRun n m out) s≡ l≡ (told-spent s l out (one .replied) (one .holds))
   spent-run (RanTo TooLarge s l) steps size out going one = let z : _≡_ {A = ℕ} 0 1 = cc in absurd (omega arith)
-  spent-run (Unreadable verdict) steps size out going one = let z : _≡_ {A = ℕ} 0 1 = cc in absurd (omega arith)
-  spent-run WrongCount steps size out going one = let z : _≡_ {A = ℕ} 0 1 = cc in absurd (omega arith)
-  spent-run (NotDecreasing rule) steps size out going one = let z : _≡_ {A = ℕ} 0 1 = cc in absurd (omega arith)
-  spent-run Malformed steps size out going one = let z : _≡_ {A = ℕ} 0 1 = cc in absurd (omega arith)
-  spent-run ShortBuffer steps size out going one = let z : _≡_ {A = ℕ} 0 1 = cc in absurd (omega arith)
+  spent-run (Refused why) steps size out going one = let z : _≡_ {A = ℕ} 0 1 = cc in absurd (omega arith)
 
   -- Carried on by the next slice it is the run with both budgets.
   module _ {steps size : ℕ} {out : Bytes} (its : SpentRun steps size out) where

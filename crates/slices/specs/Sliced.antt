@@ -8,7 +8,7 @@ use Rattle.term.specs.Prefix.{recordBytes}
 use Rattle.steps.specs.Run.{Ran}
 use Rattle.rewriting.specs.RunMeaning.{Told, runTold, runMeaning}
 use Rattle.rewriting.specs.declared.running.RunReply.{RunReply}
-use Rattle.rewriting.specs.declared.running.RunReply.the-variants.{RanTo, Unreadable, WrongCount, NotDecreasing, Malformed, ShortBuffer}
+use Rattle.rewriting.specs.declared.running.RunReply.the-variants.{RanTo, Refused}
 use Rattle.stepping.specs.declared.Outcome.the-variants.{Done, Spent, TooLarge}
 use Rattle.demands.specs.BudgetsAdd.{counting}
 use Rattle.slices.specs.declared.Going.{Going}
@@ -35,8 +35,4 @@ abbrev pub goingOf : RunReply → Going
 goingOf (RanTo Done steps length) = Ended
 goingOf (RanTo Spent steps length) = On steps length
 goingOf (RanTo TooLarge steps length) = Ended
-goingOf (Unreadable verdict) = Ended
-goingOf WrongCount = Ended
-goingOf (NotDecreasing rule) = Ended
-goingOf Malformed = Ended
-goingOf ShortBuffer = Ended
+goingOf (Refused why) = Ended

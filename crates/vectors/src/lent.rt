@@ -39,7 +39,7 @@ fn show_kept(buffer: &[u8], written: usize) {
 }
 
 // The bytes that a call wrote, and whether it kept the later ones.
-pub fn show_after(buffer: &[u8], written: usize) {
+pub(crate) fn show_after(buffer: &[u8], written: usize) {
     if 0 < written {
         show_first(buffer, written);
     }
@@ -47,7 +47,7 @@ pub fn show_after(buffer: &[u8], written: usize) {
 }
 
 // The same for a call that writes text.
-pub fn show_lines_after(buffer: &[u8], written: usize) {
+pub(crate) fn show_lines_after(buffer: &[u8], written: usize) {
     let n = words::within(written as u64, buffer);
     show::lines(&buffer[..n]);
     show_kept(buffer, written);

@@ -5,13 +5,11 @@ use crate::words;
 use answer::Answered;
 use order::RanksVerdict;
 
-pub fn check(book: &[u8], ranks: &[u8]) {
+pub(crate) fn check(book: &[u8], ranks: &[u8]) {
     let verdict = order::check_ranks(book, ranks);
     match verdict {
         RanksVerdict::Accepted => show::text(b"accepted"),
-        RanksVerdict::Unreadable(v) => show::unreadable(v),
-        RanksVerdict::WrongCount => show::refused(7, 0),
-        RanksVerdict::NotDecreasing(rule) => show::refused(8, rule),
+        RanksVerdict::Refused(refusal) => show::refused(refusal),
     }
 }
 
@@ -25,12 +23,7 @@ fn show_answered(answered: Answered) -> usize {
             }
             return symbols;
         }
-        Answered::Unreadable(v) => show::unreadable(v),
-        Answered::TooLong => show::refused(12, 0),
-        Answered::Malformed(place) => show::refused(13, place),
-        Answered::NoModel => show::refused(14, 0),
-        Answered::ShortBuffer => show::refused(9, 0),
-        Answered::NotDecreasing(rule) => show::refused(8, rule),
+        Answered::Refused(refusal) => show::refused(refusal),
     }
     0
 }
@@ -42,7 +35,7 @@ fn answer_into(book: &[u8], text: &[u8], wanted: u64, buffer: &mut [u8]) {
     lent::show_after(buffer, written);
 }
 
-pub fn answer(book: &[u8], text: &[u8], wanted: u64) {
+pub(crate) fn answer(book: &[u8], text: &[u8], wanted: u64) {
     let mut buffer = lent::lent();
     answer_into(book, text, wanted, &mut buffer);
 }

@@ -3,32 +3,37 @@ use crate::show;
 use book::BookVerdict;
 use book::RecordVerdict;
 
-pub fn book(book: &[u8]) {
+// What a read holds: so many of one, perhaps so many of another.
+fn counted(many: usize, of: &[u8]) {
+    show::number(many as u64);
+    show::text(of);
+}
+
+pub(crate) fn book(book: &[u8]) {
     let read = book::read_book(book);
     let verdict = read.verdict;
-    if let BookVerdict::Readable = verdict {
-        let found = read.book;
-        show::text(b"read, ");
-        show::number(found.symbols as u64);
-        show::text(b" symbols, ");
-        show::number(found.rules as u64);
-        show::text(b" rules");
-    } else {
-        show::unreadable(verdict);
+    match verdict {
+        BookVerdict::Readable => {
+            let found = read.book;
+            show::text(b"read, ");
+            counted(found.symbols, b" symbols, ");
+            counted(found.rules, b" rules");
+        }
+        BookVerdict::Refused(refusal) => show::refused(refusal),
     }
 }
 
-pub fn record(book: &[u8], record: &[u8]) {
+pub(crate) fn record(book: &[u8], record: &[u8]) {
     let read = book::read_book(book);
     let places = read.book;
     let symbols = places.symbols;
     let arities = places.arities;
     let verdict = book::read_record(record, symbols, arities);
-    if let RecordVerdict::Whole(nodes) = verdict {
-        show::text(b"read, ");
-        show::number(nodes as u64);
-        show::text(b" nodes");
-    } else {
-        show::refused(11, 0);
+    match verdict {
+        RecordVerdict::Whole(nodes) => {
+            show::text(b"read, ");
+            counted(nodes, b" nodes");
+        }
+        RecordVerdict::Faulty(fault) => show::refused(book::record_refusal(fault)),
     }
 }

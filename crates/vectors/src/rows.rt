@@ -104,7 +104,7 @@ fn book_at(row: &[u8], book: &mut [u8], size: usize) -> usize
     words::within(size as u64, book)
 }
 
-pub fn show_all(rows: &[u8], book: &mut [u8]) {
+pub(crate) fn show_all(rows: &[u8], book: &mut [u8]) {
     let mut size = 0;
     let mut at = 0;
     while at < rows.len() {

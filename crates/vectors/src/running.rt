@@ -27,11 +27,7 @@ fn show_ran(ran: RunReply) -> usize {
             show_outcome(outcome, steps);
             return length;
         }
-        RunReply::Unreadable(v) => show::unreadable(v),
-        RunReply::WrongCount => show::refused(7, 0),
-        RunReply::NotDecreasing(rule) => show::refused(8, rule),
-        RunReply::Malformed => show::refused(11, 0),
-        RunReply::ShortBuffer => show::refused(9, 0),
+        RunReply::Refused(refusal) => show::refused(refusal),
     }
     0
 }
@@ -43,13 +39,13 @@ fn run_into(book: &[u8], ranks: &[u8], record: &[u8], budget: u64, wanted: u64, 
     lent::show_after(buffer, written);
 }
 
-pub fn run(book: &[u8], ranks: &[u8], record: &[u8], budget: u64, wanted: u64) {
+pub(crate) fn run(book: &[u8], ranks: &[u8], record: &[u8], budget: u64, wanted: u64) {
     let mut buffer = lent::lent();
     run_into(book, ranks, record, budget, wanted, &mut buffer);
 }
 
 // The part, then where it starts or, by "a second question on the same input", the refusal's number.
-pub fn argument(book: &[u8], record: &[u8], number: u64) {
+pub(crate) fn argument(book: &[u8], record: &[u8], number: u64) {
     show::bytes(rewriting::asking::argument(book, record, number));
     let reply = rewriting::asking::argument_reply(book, record, number);
     match reply {
@@ -57,17 +53,9 @@ pub fn argument(book: &[u8], record: &[u8], number: u64) {
             show::text(b" from ");
             show::number(start as u64);
         }
-        ArgumentReply::Unreadable(v) => {
+        ArgumentReply::Refused(refusal) => {
             show::text(b", ");
-            show::unreadable(v);
-        }
-        ArgumentReply::Malformed => {
-            show::text(b", ");
-            show::refused(11, 0);
-        }
-        ArgumentReply::NoSuchArgument => {
-            show::text(b", ");
-            show::refused(15, 0);
+            show::refused(refusal);
         }
     }
 }

@@ -1,13 +1,14 @@
 // A reply's parts, on standard output.
 use crate::words;
-use book::BookVerdict;
 use libc::STDOUT_FILENO;
+use reply::Refusal;
+use reply_lines::write_refusal;
 
-pub fn text(words: &[u8]) {
+pub(crate) fn text(words: &[u8]) {
     io::write_all(STDOUT_FILENO, words);
 }
 
-pub fn number(n: u64) {
+pub(crate) fn number(n: u64) {
     io::print_decimal(STDOUT_FILENO, n);
 }
 
@@ -16,7 +17,7 @@ fn wide(x: u8) -> u64 {
 }
 
 // Bytes in hexadecimal, two digits each; `-` for none.
-pub fn bytes(bytes: &[u8]) {
+pub(crate) fn bytes(bytes: &[u8]) {
     if bytes.len() == 0 {
         text(b"-");
         return;
@@ -29,7 +30,7 @@ pub fn bytes(bytes: &[u8]) {
 }
 
 // A text, its newlines written `|`.
-pub fn lines(bytes: &[u8]) {
+pub(crate) fn lines(bytes: &[u8]) {
     let mut at = 0;
     while at < bytes.len() {
         let end = words::next(bytes, at, b'\n');
@@ -39,15 +40,9 @@ pub fn lines(bytes: &[u8]) {
     }
 }
 
-pub fn refused(refusal: u64, place: usize) {
-    text(b"refused ");
-    number(refusal);
-    text(b" at ");
-    number(place as u64);
-}
-
-// Why a book cannot be read.
-pub fn unreadable(verdict: BookVerdict) {
-    let why = book::refused_by(verdict);
-    refused(why.number, why.place);
+// A refusal, `refused N at P`.
+pub(crate) fn refused(refusal: Refusal) {
+    let mut out = [0u8; 64];
+    let n = write_refusal(refusal, &mut out);
+    text(&out[..n]);
 }

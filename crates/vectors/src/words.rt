@@ -35,14 +35,14 @@ fn start_of(row: &[u8], i: usize) -> usize
     at
 }
 
-pub fn word(row: &[u8], i: usize) -> &[u8] {
+pub(crate) fn word(row: &[u8], i: usize) -> &[u8] {
     let start = start_of(row, i);
     let end = next(row, start, b' ');
     &row[start..end]
 }
 
 // Word i and all that follows it.
-pub fn rest(row: &[u8], i: usize) -> &[u8] {
+pub(crate) fn rest(row: &[u8], i: usize) -> &[u8] {
     let start = start_of(row, i);
     &row[start..]
 }
@@ -85,7 +85,7 @@ fn wide(x: u8) -> u64
 }
 
 // The number that a word gives in decimal, up to 2^64 − 1.
-pub fn number(word: &[u8]) -> u64 {
+pub(crate) fn number(word: &[u8]) -> u64 {
     let mut value: u64 = 0;
     let mut i = 0;
     while i < word.len() {

@@ -10,9 +10,7 @@ fn show_written(written: Written) -> usize {
         Written::Laid(length) => {
             return length;
         }
-        Written::Unreadable(v) => show::unreadable(v),
-        Written::NoBlock => show::refused(10, 0),
-        Written::ShortBuffer => show::refused(9, 0),
+        Written::Refused(refusal) => show::refused(refusal),
     }
     0
 }
@@ -24,7 +22,7 @@ fn block_into(book: &[u8], number: u64, wanted: u64, buffer: &mut [u8]) {
     lent::show_lines_after(buffer, length);
 }
 
-pub fn block(book: &[u8], number: u64, wanted: u64) {
+pub(crate) fn block(book: &[u8], number: u64, wanted: u64) {
     let mut buffer = lent::lent();
     block_into(book, number, wanted, &mut buffer);
 }

@@ -48,13 +48,16 @@ write-read-block-requires c κs = search needs
 enum-known-written : tie.Need-enum-known-written Inv-loop μ-loop
 enum-known-written c = search needs
 
+enum-told : tie.Need-enum-told Inv-loop μ-loop
+enum-told c = search needs
+
 same-length : tie.Need-same-length Inv-loop μ-loop
 same-length c = search needs
 
 -- No block was laid.
-module _ (c : tie.At-match-keys2 Inv-loop μ-loop) where
+module _ (c : tie.After-enum-told Inv-loop μ-loop) where
   abbrev last : tie.At-loop Inv-loop μ-loop
-  last = c .before .before .before .before .before
+  last = c .before .before .before .before .before .before
 
   abbrev remains : List ℕ
   remains = midOf (last .loop .at) (length (last .loop .out) - last .loop .at) (last .loop .out)
@@ -62,11 +65,11 @@ module _ (c : tie.At-match-keys2 Inv-loop μ-loop) where
   abbrev reply : Reply (List ℕ)
   reply = blockOf (bookAt (last .before .before .before .args .bytes .now) (last .before .before .before .args .book)) (last .loop .next) (length remains)
 
-  refusal : Refuses (c .before .before .before .write-read-block .result)
-  refusal = refuses (c .before .before .before .write-read-block .result) (c .match .keys2)
+  refusal : Refuses (c .before .before .before .before .write-read-block .result)
+  refusal = refuses (c .before .before .before .before .write-read-block .result) _ (c .enum-told .given .1)
 
   told : refused (refusal .why) ≡ lengthOf reply
-  told = sym (refusal .means) ∙ c .before .before .before .write-read-block .ensures .0
+  told = sym (refusal .means) ∙ c .before .before .before .before .write-read-block .ensures .0
 
 returns : tie.Need-returns Inv-loop μ-loop
 returns c =
@@ -74,7 +77,7 @@ returns c =
     let book = bookAt (start .args .bytes .now) (start .args .book) in
     no-more (fileBlocks book) (start .args .first) (start .args .out .now) (last c .loop .inv .2)
     (none-fits book (last c .loop .next) (length (remains c)) (refusal c .why) (told c))
-    (nothing-laid (reply c) (refusal c .why) (told c) (c .before .before .before .write-read-block .ensures .1))
+    (nothing-laid (reply c) (refusal c .why) (told c) (c .before .before .before .before .write-read-block .ensures .1))
 
 -- A block was laid.
 module _ (c : tie.After-known-told Inv-loop μ-loop) where
@@ -134,6 +137,7 @@ fill-spec =
     part-write-read-block-end
     write-read-block-requires
     enum-known-written
+    enum-told
     same-length
     returns
     add-at

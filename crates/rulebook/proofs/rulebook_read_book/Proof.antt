@@ -10,32 +10,29 @@ use Rattle.rulebook.proofs.rulebook_read_book.Tie as tie
 read-book-requires : tie.Need-read-book-requires
 read-book-requires c κs = search needs
 
-enum-told : tie.Need-enum-told
-enum-told c = search needs
-
-of-book-requires : tie.Need-of-book-requires
-of-book-requires c κs = search needs
+enum-known-verdict : tie.Need-enum-known-verdict
+enum-known-verdict c = search needs
 
 no-book-requires : tie.Need-no-book-requires
 no-book-requires c κs = search needs
 
 returns : tie.Need-returns
 returns c =
-    let start = c .before .before .before .before .before in
-    let read = c .before .before .before .read-book in
-    c .no-book .ensures ∙ book-not-read (start .args .book .now) (read .result) _ (read .ensures .1) (c .before .before .match .keys2) (c .before .of-book .ensures)
+    let read = c .before .before .before .before .read-book in
+    c .no-book .ensures ∙ book-not-read (c .before .before .before .before .before .before .args .book .now) (read .result) _ (read .ensures .0) (c .before .before .verdict .given .1)
+
+enum-told : tie.Need-enum-told
+enum-told c = search needs
 
 count-blocks-requires : tie.Need-count-blocks-requires
 count-blocks-requires c κs =
-    let start = c .before .before .before .before .before in
     let read = c .before .before .before .read-book in
-    was-read (start .args .book .now) (read .result) (read .ensures .0) (c .before .enum-told .given .1)
+    was-read (c .before .before .before .before .before .args .book .now) (read .result) (read .ensures .0) (c .before .enum-told .given .1)
 
 returns-2 : tie.Need-returns-2
 returns-2 c =
-    let start = c .before .before .before .before .before .before in
     let read = c .before .before .before .before .read-book in
-    let bytes = start .args .book .now in
+    let bytes = c .before .before .before .before .before .before .args .book .now in
     let from = read-from bytes (read .result) (read .ensures .0) (c .before .before .enum-told .given .1) in
     book-was-read from (c .count-blocks .result) (c .count-blocks .ensures bytes from)
 
@@ -44,9 +41,9 @@ rulebook-read-book-spec =
     tie.close
     (tie.spec
     read-book-requires
-    enum-told
-    of-book-requires
+    enum-known-verdict
     no-book-requires
     returns
+    enum-told
     count-blocks-requires
     returns-2)

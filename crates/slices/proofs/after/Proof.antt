@@ -12,8 +12,11 @@ use Rattle.slices.proofs.after.Tie as tie
 enum-known-reply : tie.Need-enum-known-reply
 enum-known-reply c = search needs
 
+enum-told : tie.Need-enum-told
+enum-told c = search needs
+
 returns : tie.Need-returns
-returns c = refused-later (c .before .args .made) (c .before .args .reply) (c .match .keys2)
+returns c = let start = c .before .before in refused-later (start .args .made) (start .args .reply) _ (c .enum-told .given .1)
 
 add-t6 : tie.Need-add-t6
 unfolding runMeaning
@@ -24,4 +27,4 @@ unfolding runMeaning toldLater _>>=_
 returns-2 c = ap (λ (reply : RunReply). toldLater (c .before .before .before .args .made) (runMeaning reply)) (sym (c .before .reply .given .1))
 
 pub after-spec : {M : Type 1} → statement M
-after-spec = tie.close (tie.spec enum-known-reply returns add-t6 returns-2)
+after-spec = tie.close (tie.spec enum-known-reply enum-told returns add-t6 returns-2)

@@ -1,10 +1,17 @@
 -- `replies::not_written` meets its contract: the refusal, and 0 in every other field. Assumes nothing.
-use mathlib.Core.Path.{refl}
+use mathlib.Core.Path.{ap}
+use borrow.Author.Needs.{needs}
+use Rattle.reply.specs.Reply.{refused, _at_}
+use Rattle.rulebook.specs.Replies.{writtenReply}
+use Rattle.rulebook.specs.declared.replies.Verdict.{Verdict}
 use Rattle.rulebook.proofs.replies.not_written.Statement.{statement}
 use Rattle.rulebook.proofs.replies.not_written.Tie as tie
 
+refuse-requires : tie.Need-refuse-requires
+refuse-requires c κs = search needs
+
 returns : tie.Need-returns
-returns c = refl
+returns c = ap (λ (reason : Verdict). writtenReply (refused (reason .refusal at reason .place))) (c .refuse .ensures)
 
 pub not-written-spec : {M : Type 1} → statement M
-not-written-spec = tie.close (tie.spec returns)
+not-written-spec = tie.close (tie.spec refuse-requires returns)

@@ -1,0 +1,45 @@
+-- It ends: fewer bytes are left at each turn. Assumes nothing.
+use borrow.Author.Needs.{needs}
+use Rattle.rulebook_pipe.proofs.parts.pass_over.Statement.{statement}
+use Rattle.rulebook_pipe.proofs.parts.pass_over.Tie as tie
+
+abbrev Inv-loop : tie.InvT-loop
+Inv-loop length left₀ left = Unit {0}
+
+abbrev μ-loop : tie.MeasureT-loop
+μ-loop length left₀ left = left
+
+loop-holds : tie.Need-loop-holds Inv-loop μ-loop
+loop-holds c = search needs
+
+pass-some-requires : tie.Need-pass-some-requires Inv-loop μ-loop
+pass-some-requires c κs = search needs
+
+returns : tie.Need-returns Inv-loop μ-loop
+returns c = search needs
+
+sub-left : tie.Need-sub-left Inv-loop μ-loop
+sub-left c = search needs
+
+loop-less : tie.Need-loop-less Inv-loop μ-loop
+loop-less c = search needs
+
+loop-again : tie.Need-loop-again Inv-loop μ-loop
+loop-again c = search needs
+
+returns-2 : tie.Need-returns-2 Inv-loop μ-loop
+returns-2 c = search needs
+
+pub pass-over-spec : {M : Type 1} → statement M
+pass-over-spec =
+    tie.close
+    (tie.spec
+    Inv-loop
+    μ-loop
+    loop-holds
+    pass-some-requires
+    returns
+    sub-left
+    loop-less
+    loop-again
+    returns-2)
