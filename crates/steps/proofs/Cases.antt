@@ -12,13 +12,13 @@ use Rattle.steps.specs.Argument.{Part, argument}
 use Rattle.steps.specs.Computing.{computing}
 
 -- A run's outcome, its steps and the nodes of the term reached.
-data Told : Type 0 where
-  told : Outcome → (steps nodes : ℕ) → Told
+data Ended : Type 0 where
+  ended : Outcome → (steps nodes : ℕ) → Ended
 
-tell : Reply Ran → Reply Told
-tell reply = do
+shown : Reply Ran → Reply Ended
+shown reply = do
   ran ← reply
-  given (told (ran .outcome) (ran .steps) (size (ran .reached)))
+  given (ended (ran .outcome) (ran .steps) (size (ran .reached)))
 
 spent-at-the-cap : run adding (0 ∷ 0 ∷ 1 ∷ []) oneAndNone 1 513 ≡ given (record { outcome = spent; steps = 1; reached = app 1 (cons (app 2 (cons (app 0 nil) (cons (app 0 nil) nil))) nil) })
 unfolding computing
@@ -35,16 +35,16 @@ doubling = 1 ∷ 0 ∷ 1 ∷ 1 ∷ 1 ∷ 2 ∷ 2 ∷ 3 ∷ 1 ∷ 4 ∷ 0 ∷ 3 �
 tower : (count : ℕ) → List ℕ
 tower count = flatten (replicate count (3 ∷ 1 ∷ [])) ++ (3 ∷ 0 ∷ 5 ∷ [])
 
-nine-doublings : tell (run doubling (0 ∷ 1 ∷ 0 ∷ []) (tower 9) 10 513) ≡ given (told tooLarge 6 130)
-unfolding computing flatten tell doubling tower
+nine-doublings : shown (run doubling (0 ∷ 1 ∷ 0 ∷ []) (tower 9) 10 513) ≡ given (ended tooLarge 6 130)
+unfolding computing flatten shown doubling tower
 nine-doublings = refl
 
-eight-doublings : tell (run doubling (0 ∷ 1 ∷ 0 ∷ []) (tower 8) 10 513) ≡ given (told tooLarge 7 256)
-unfolding computing flatten tell doubling tower
+eight-doublings : shown (run doubling (0 ∷ 1 ∷ 0 ∷ []) (tower 8) 10 513) ≡ given (ended tooLarge 7 256)
+unfolding computing flatten shown doubling tower
 eight-doublings = refl
 
-the-budget-before-the-size : tell (run doubling (0 ∷ 1 ∷ 0 ∷ []) (tower 8) 7 513) ≡ given (told spent 7 256)
-unfolding computing flatten tell doubling tower
+the-budget-before-the-size : shown (run doubling (0 ∷ 1 ∷ 0 ∷ []) (tower 8) 7 513) ≡ given (ended spent 7 256)
+unfolding computing flatten shown doubling tower
 the-budget-before-the-size = refl
 
 -- z/0, w/0, f/1, e/2: f(x) → z, f(x) → w, e(x,x) → z

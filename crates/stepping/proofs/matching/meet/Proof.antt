@@ -1,3 +1,5 @@
+-- Variable x meets the term at a place: where it is bound, both terms are compared and an earlier no is kept; where it is free, it is bound
+-- there. Assumes nothing.
 use borrow.Author.Needs.{needs}
 use Rattle.stepping.proofs.matching.meet.Statement.{statement}
 use Rattle.stepping.proofs.matching.meet.Tie as tie
