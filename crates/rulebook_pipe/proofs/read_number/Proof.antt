@@ -22,9 +22,6 @@ returns c = search needs
 returns-2 : tie.Need-returns-2 Inv-loop μ-loop
 returns-2 c = search needs
 
-wide-requires : tie.Need-wide-requires Inv-loop μ-loop
-wide-requires c κs = search needs
-
 grown-requires : tie.Need-grown-requires Inv-loop μ-loop
 grown-requires c κs = search needs
 
@@ -59,7 +56,6 @@ read-number-spec =
     byte-requires
     returns
     returns-2
-    wide-requires
     grown-requires
     enum-known-more
     enum-told
