@@ -24,7 +24,8 @@ pub struct Filled {
 // Lays blocks one behind another, from this number on, as long as there are blocks and 512 bytes of room.
 fn fill(bytes: &[u8], book: Book, first: usize, out: &mut [u8]) -> Filled
     requires { ⌜ ReadFrom (now bytes) book ⌝ }
-    ensures { λ r. ⌜ FilledWith (fitting (length (now (out .entry))) (drop first (fileBlocks (bookAt (now (bytes .entry)) book)))) first r (now (out .entry)) (now (out .exit)) ⌝ }
+    ensures { λ r. ⌜ FilledWith (fitting (length (now (out .entry))) (drop first (fileBlocks (bookAt (now (bytes .entry)) book)))) first r
+        (now (out .entry)) (now (out .exit)) ⌝ }
 {
     let mut at = 0;
     let mut next = first;

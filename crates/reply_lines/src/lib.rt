@@ -21,7 +21,21 @@ ghost use Rattle.rewriting.specs.RunMeaning.{runMeaning};
 ghost use Rattle.stepping.specs.Stepped.{outcomeOf};
 ghost use Rattle.text.specs.Laying.{Lays};
 ghost use Rattle.text.specs.Text.{refusedLine};
-ghost use Rattle.reply_lines.specs.Lines.{countedLine, refusalText, verdictLines, acceptedLines, rankLines, bytesLine, termLine, termLines, outcomeLine, ranToLines, ranLines, partLines, LaysFor};
+ghost use Rattle.reply_lines.specs.Lines.{
+  countedLine,
+  refusalText,
+  verdictLines,
+  acceptedLines,
+  rankLines,
+  bytesLine,
+  termLine,
+  termLines,
+  outcomeLine,
+  ranToLines,
+  ranLines,
+  partLines,
+  LaysFor,
+};
 
 // A word and a number behind it, as a line.
 pub fn write_line(word: &[u8], n: usize, out: &mut [u8]) -> usize
@@ -125,7 +139,8 @@ fn write_ran_to(
     arities: [u8; 16],
     out: &mut [u8],
 ) -> usize
-    ensures { λ r. ⌜ LaysFor (now (bytes .entry)) arities (ranToLines (now (bytes .entry)) (record { outcome = outcomeOf outcome; steps = steps; length = many })) (now (out .entry)) r (now (out .exit)) ⌝ }
+    ensures { λ r. ⌜ LaysFor (now (bytes .entry)) arities (ranToLines (now (bytes .entry))
+        (record { outcome = outcomeOf outcome; steps = steps; length = many })) (now (out .entry)) r (now (out .exit)) ⌝ }
 {
     let start = write_outcome(outcome, out);
     let at = start + write_line(b"steps ", steps as usize, &mut out[start..]);
