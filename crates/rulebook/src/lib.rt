@@ -85,8 +85,10 @@ pub extern "C" fn rulebook_run(
     budget: u64,
     out: &mut [u8],
 ) -> RanReply
-    ensures replies { λ r. ⌜ r ≡ ranReply (runTold (run (now (book .entry)) (now (ranks .entry)) (now («record» .entry)) budget (length (now (out .entry))))) ⌝ }
-    ensures lays { λ _. ⌜ now (out .exit) ≡ laid (ranBytes (run (now (book .entry)) (now (ranks .entry)) (now («record» .entry)) budget (length (now (out .entry))))) (now (out .entry)) ⌝ }
+    ensures replies { λ r. ⌜ r ≡ ranReply (runTold (run (now (book .entry)) (now (ranks .entry)) (now («record» .entry)) budget
+        (length (now (out .entry))))) ⌝ }
+    ensures lays { λ _. ⌜ now (out .exit) ≡ laid (ranBytes (run (now (book .entry)) (now (ranks .entry)) (now («record» .entry)) budget
+        (length (now (out .entry))))) (now (out .entry)) ⌝ }
 {
     of_run(rewriting::running::run(book, ranks, record, budget, out))
 }

@@ -17,12 +17,14 @@ ghost use Rattle.rewriting.specs.RunMeaning.{runMeaning};
 ghost use Rattle.stepping.specs.Stepped.{outcomeOf};
 ghost use Rattle.rulebook.specs.Replies.{verdictReply, bookReply, writtenReply, outcomeNumber, ranReply, partReply};
 
+// Whether ranks are accepted. Every reply begins with these two numbers, so that C asks after a refusal in one way.
 #[repr(C)]
 pub struct Verdict {
     pub refusal: u64,
     pub place: u64,
 }
 
+// What a caller must know of a book before it asks more: how many ranks it takes, and how many blocks there are to write.
 #[repr(C)]
 pub struct BookReply {
     pub refusal: u64,
@@ -32,6 +34,7 @@ pub struct BookReply {
     pub blocks: u64,
 }
 
+// What was written lies in the lent buffer, so the reply has its length alone.
 #[repr(C)]
 pub struct WrittenReply {
     pub refusal: u64,
@@ -39,6 +42,7 @@ pub struct WrittenReply {
     pub length: u64,
 }
 
+// The term reached lies in the lent buffer as a record of so many bytes; the outcome is a number, since C has no enum with values.
 #[repr(C)]
 pub struct RanReply {
     pub refusal: u64,
@@ -48,6 +52,7 @@ pub struct RanReply {
     pub length: u64,
 }
 
+// Where the argument stands in the caller's own record: a reference can't be returned to C.
 #[repr(C)]
 pub struct PartReply {
     pub refusal: u64,
