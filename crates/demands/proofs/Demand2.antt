@@ -17,6 +17,7 @@ use Rattle.book.specs.Reading.{readBook}
 use Rattle.book.specs.Record.{readRecord}
 use Rattle.book.specs.Limits.{WithinLimits}
 use Rattle.book.proofs.Limits.{read-within-limits}
+use Rattle.book.proofs.ReadExactly.{book-read-exactly, record-read-exactly}
 use Rattle.order.specs.Precedence.{StrictPrecedence, Above}
 use Rattle.order.specs.Clearing.{Clears, ranksClear}
 use Rattle.order.proofs.Checked.{ranks-clear-exactly, accepted-exactly}
@@ -39,12 +40,13 @@ use Rattle.answer.proofs.Checked.{answers-are-checked, length-ranksOf}
 use Rattle.printed_answer.proofs.PrintedRanks.{printed-ranks}
 use Rattle.printed_answer.proofs.Usual.{usual-tells, usual-short}
 use Rattle.printed_answer.proofs.UsualBytes.{usual-bytes}
-use Rattle.steps.specs.Step.{OwnSteps}
-use Rattle.steps.specs.Run.{Ran, Means, run, runFrom}
+use Rattle.steps.specs.Run.{Ran, Yields, run, runFrom}
 use Rattle.steps.proofs.OwnStep.{own-step-is-free}
-use Rattle.steps.proofs.Run.{run-yields}
+use Rattle.steps.proofs.Run.{run-yields, run-settled}
 use Rattle.demands.specs.EntryPoints.{Bytes}
 use Rattle.demands.specs.Demand2.{
+  BooksAreRead,
+  RecordsAreRead,
   SatisfyingAssignment,
   SomePrecedenceClears,
   rankBitsOf,
@@ -60,6 +62,7 @@ use Rattle.demands.specs.Demand2.{
   AcceptedAnswer,
   AcceptedAnswerExactlyIfCleared,
   RunYields,
+  YieldsOnce,
   OwnStepIsFree,
   Demand2,
 }
@@ -170,20 +173,25 @@ accepted-answer-exactly bytes book room read fits = (cleared, found)
           accepted = usual-accepted bytes book α room read satisfies fits;
         }
 
-run-yields-both : RunYields
+run-yields-its : RunYields
 unfolding RunYields
-run-yields-both bytes ranks record′ budget room book t ran read recorded e =
+run-yields-its bytes ranks record′ budget room book t ran read recorded e =
     let a = accepted bytes ranks record′ budget room ran e in
     let same : a .book ≡ book = cc (a .readable) in
     let itsTerm : a .term ≡ t = cc (sym (a .recorded) ∙ ap (λ b. readRecord b record′) same ∙ recorded) in
-    subst
-    (λ (r : Ran). OwnSteps (book .rules) (r .steps) t (r .reached) × Means (r .outcome) (book .rules) budget (r .steps) (r .reached))
+    subst (Yields (book .rules) budget t)
     (ap₂ (λ (b : Book) (u : Term). runFrom (b .rules) budget 0 u) (sym same) (sym itsTerm) ∙ a .runs) (run-yields (book .rules) budget t)
 
+yields-once : YieldsOnce
+unfolding YieldsOnce
+yields-once rules budget t ran ran′ y y′ = run-settled rules budget t ran y ∙ sym (run-settled rules budget t ran′ y′)
+
 pub demand2 : Demand2
-unfolding AcceptedExactlyIfDecreasing AnswersAreChecked OwnStepIsFree
+unfolding BooksAreRead RecordsAreRead AcceptedExactlyIfDecreasing AnswersAreChecked OwnStepIsFree
 demand2 =
     record {
+      books = book-read-exactly;
+      records = record-read-exactly;
       satisfiable = satisfiable-exactly;
       rankBitsClear = rank-bits-clear;
       ranksExtend = ranks-extend;
@@ -193,6 +201,7 @@ demand2 =
       printedAnswers = printed-accepted;
       usualAnswers = usual-accepted;
       acceptedAnswer = accepted-answer-exactly;
-      runs = run-yields-both;
+      runs = run-yields-its;
+      onlyOneRun = yields-once;
       ownSteps = own-step-is-free;
     }

@@ -3,11 +3,13 @@
 use Prim.Native.Nat.{ℕ, _≤_, _<_}
 use mathlib.Core.List.{List, List·Memᴰ}
 use mathlib.Core.Logic.{_⊎_, inl, inr}
-use mathlib.Core.Path.{_≡_, refl, sym, ap, ap₂, _∙_}
+use mathlib.Core.Bool.{Bool, true, false}
+use mathlib.Core.Path.{_≡_, refl, sym, ap, ap₂, subst, _∙_}
 use lib.Dec.{T}
 use lib.ListN.{length}
 use Rattle.reply.specs.Reply.{Reply, given, refused}
 use Rattle.term.specs.Term.{Term, over}
+use Rattle.reply.proofs.Tests.{passed}
 use Rattle.reply.proofs.Given.{refused-not-given, bind-given, given-bind, then-given}
 use Rattle.book.specs.Book.{Book, symbols}
 use Rattle.book.specs.Reading.{readBook}
@@ -17,7 +19,11 @@ use Rattle.book.proofs.Limits.{read-within-limits}
 use Rattle.book.proofs.ReadRecord.{record-read}
 use Rattle.order.specs.Precedence.{StrictPrecedence, Above}
 use Rattle.order.specs.Clearing.{Clears, ranksClear}
-use Rattle.order.proofs.Checked.{ranks-clear-exactly, check-of-read}
+use Rattle.order.specs.Exceeds.{Exceeds}
+use Rattle.order.specs.Test.{exceeds}
+use Rattle.order.proofs.Decides.{exceeds-decides}
+use Rattle.order.proofs.Tables.{Table, some-table}
+use Rattle.order.proofs.Checked.{all-decrease-decided, ranks-clear-exactly, check-of-read}
 use Rattle.order.proofs.Grows.{over→declared}
 use Rattle.order.proofs.RanksOfPrecedence.{ranks-of-precedence}
 use Rattle.order.proofs.PathOrder.{ranks-order}
@@ -29,13 +35,13 @@ use Rattle.steps.proofs.Run.{never-spent}
 use Rattle.steps.proofs.RanCleared.{then-run}
 use Rattle.demands.specs.EntryPoints.{Bytes}
 use Rattle.demands.specs.Demand2.{SomePrecedenceClears}
-use Rattle.demands.specs.Demand3.{Bounded, ComesToRest, NeverSpent, DoneOrTooLarge, Demand3}
+use Rattle.demands.specs.Demand3.{Bounds, ComesToRest, AcceptedRanksRest, NeverSpent, NotRefused, Demand3}
 
 -- Ranks that clear a book bound every sequence of steps, from any term over its symbols.
 pub ranks-bound :
     (book : Book) → WithinLimits book → (ranks : List ℕ) → Clears (Above ranks) (book .rules) →
-    (t : Term) → T (over (book .arities) t) → Bounded (book .rules) t
-unfolding Bounded
+    (t : Term) → T (over (book .arities) t) → (N : ℕ) × Bounds (book .rules) t N
+unfolding Bounds
 ranks-bound book limits ranks clears = bounded (ranks-order (book .arities) ranks) (book .rules) (rules-go-down limits clears)
 
 -- Ranks below n that clear a book that some strict precedence clears.
@@ -48,12 +54,57 @@ clearing-ranks book limits p =
     (λ rule m f i. over→declared (book .arities) (limits .left rule m .overSymbols) i)
     (λ rule m f i. over→declared (book .arities) (limits .right rule m .overSymbols) i)
 
-pub comes-to-rest : ComesToRest
+-- N from the book and the term alone: of the tables of ranks 0 to n - 1 the first that clears gives it; where none does, 0.
+module _ (book : Book) (limits : WithinLimits book) (t : Term) where
+  abbrev ClearingTable : Type 0
+  ClearingTable = Table (symbols book) (symbols book) (λ (ranks : List ℕ). Clears (Above ranks) (book .rules))
+
+  tried : Dec ClearingTable
+  tried =
+      some-table (symbols book) (symbols book) (λ (ranks : List ℕ). Clears (Above ranks) (book .rules))
+      (λ ranks. all-decrease-decided (Exceeds (Above ranks)) (exceeds ranks) (exceeds-decides ranks) (book .rules))
+
+  number : Dec ClearingTable → (o : Bool) → over (book .arities) t ≡ o → ℕ
+  number (yes table) true o = ranks-bound book limits (table .0) (table .3) t (passed o) .0
+  number (yes table) false o = 0
+  number (no none) o e = 0
+
+  number-bounds :
+      (table : Dec ClearingTable) (o : Bool) (e : over (book .arities) t ≡ o) → SomePrecedenceClears book → T (over (book .arities) t) →
+      Bounds (book .rules) t (number table o e)
+  unfolding number
+  number-bounds (yes table) true e p h = ranks-bound book limits (table .0) (table .3) t (passed e) .1
+  number-bounds (yes table) false e p h = absurd (subst T e h)
+  number-bounds (no none) o e p h = absurd (none (clearing-ranks book limits p))
+
+module _ (bytes : Bytes) (t : Term) where
+  numberOf : (reply : Reply Book) → readBook bytes ≡ reply → ℕ
+  numberOf (given book) e = let limits = read-within-limits bytes book e in number book limits t (tried book limits t) (over (book .arities) t) refl
+  numberOf (refused r) e = 0
+
+  numberOf-bounds :
+      (book : Book) (reply : Reply Book) (e : readBook bytes ≡ reply) → reply ≡ given book → SomePrecedenceClears book → T (over (book .arities) t) →
+      Bounds (book .rules) t (numberOf reply e)
+  unfolding numberOf
+  numberOf-bounds book (given b) e same p h =
+      let limits = read-within-limits bytes b e in
+      let its : book ≡ b = cc same in
+      subst (λ (c : Book). Bounds (c .rules) t (number b limits t (tried b limits t) (over (b .arities) t) refl)) (sym its)
+      (number-bounds b limits t (tried b limits t) (over (b .arities) t) refl (subst SomePrecedenceClears its p) (subst (λ (c : Book). T (over (c .arities) t)) its h))
+  numberOf-bounds book (refused r) e same p h = absurd (refused-not-given r book same)
+
+comes-to-rest : ComesToRest
 unfolding ComesToRest
-comes-to-rest bytes book read p t over free =
-    let limits = read-within-limits bytes book read in
-    let found = clearing-ranks book limits p in
-    ranks-bound book limits (found .0) (found .3) t over
+comes-to-rest = (
+  λ bytes t. numberOf bytes t (readBook bytes) refl,
+  λ bytes book t read p o free. numberOf-bounds bytes t book (readBook bytes) refl read p o,
+)
+
+accepted-ranks-rest : AcceptedRanksRest
+unfolding AcceptedRanksRest
+accepted-ranks-rest bytes ranks book t read accepted o free =
+    let cleared : ranksClear book ranks ≡ given tt = sym (check-of-read bytes book ranks read) ∙ accepted in
+    ranks-bound book (read-within-limits bytes book read) ranks (ranks-clear-exactly book ranks .0 cleared .1) t o
 
 -- What a run that is not refused found: the book, ranks that clear it, and the record, of which it is the run.
 pub record Accepted (bytes ranks record′ : Bytes) (budget : ℕ) (ran : Ran) : Type 0 where
@@ -73,53 +124,6 @@ accepted bytes ranks record′ budget room ran e =
     let (roomy, runs) = then-given _ _ _ afterRecord in
     record { book = book; readable = readable; cleared = cleared .1; term = term; recorded = recorded; runs = cc }
 
--- N for given bytes, by what the book, the ranks and the record turn out to be; where one of them is refused, no run is accepted.
-abbrev Rests : (bytes ranks record′ : Bytes) → Type 0
-Rests bytes ranks record′ =
-    (N : ℕ) × ((budget room : ℕ) (ran : Ran) → N ≤ budget → run bytes ranks record′ budget room ≡ given ran → ran .outcome ≡ spent → ⊥)
-
-module _ (bytes ranks record′ : Bytes) where
-  no-run : ((budget : ℕ) (ran : Ran) → Accepted bytes ranks record′ budget ran → ⊥) → Rests bytes ranks record′
-  no-run never = (0, λ budget room ran enough e s. never budget ran (accepted bytes ranks record′ budget room ran e))
-
-  by-record :
-      (book : Book) → readBook bytes ≡ given book → Clears (Above ranks) (book .rules) →
-      (reply : Reply Term) → readRecord book record′ ≡ reply → Rests bytes ranks record′
-  unfolding Bounded
-  by-record book readable clears (refused r) e =
-      no-run
-      (λ budget ran (a : Accepted bytes ranks record′ budget ran).
-      let same : a .book ≡ book = cc (a .readable) in
-      refused-not-given r (a .term) (sym e ∙ ap (λ b. readRecord b record′) (sym same) ∙ a .recorded))
-  by-record book readable clears (given t) e =
-      let bound = ranks-bound book (read-within-limits bytes book readable) ranks clears t (record-read book record′ t e .0) in (
-        bound .0,
-        λ budget room ran enough q s.
-            let a = accepted bytes ranks record′ budget room ran q in
-            let same : a .book ≡ book = cc (a .readable) in
-            let itsTerm : a .term ≡ t = cc (sym (a .recorded) ∙ ap (λ b. readRecord b record′) same ∙ e) in
-            never-spent (book .rules) t (bound .0) (bound .1) budget enough
-            (ap (λ (r : Ran). r .outcome) (ap₂ (λ (b : Book) (u : Term). runFrom (b .rules) budget 0 u) (sym same) (sym itsTerm) ∙ a .runs) ∙ s),
-      )
-
-  by-ranks : (book : Book) → readBook bytes ≡ given book → (reply : Reply (Unit {0})) → ranksClear book ranks ≡ reply → Rests bytes ranks record′
-  by-ranks book readable (refused r) e =
-      no-run
-      (λ budget ran (a : Accepted bytes ranks record′ budget ran).
-      let same : a .book ≡ book = cc (a .readable) in
-      refused-not-given r tt (sym e ∙ ap (λ b. ranksClear b ranks) (sym same) ∙ a .cleared))
-  by-ranks book readable (given u) e =
-      by-record book readable (ranks-clear-exactly book ranks .0 e .1) (readRecord book record′) refl
-
-  by-book : (reply : Reply Book) → readBook bytes ≡ reply → Rests bytes ranks record′
-  by-book (refused r) e =
-      no-run (λ budget ran (a : Accepted bytes ranks record′ budget ran). refused-not-given r (a .book) (sym e ∙ a .readable))
-  by-book (given book) e = by-ranks book e (ranksClear book ranks) refl
-
-pub run-never-spent : NeverSpent
-unfolding NeverSpent
-run-never-spent bytes ranks record′ = by-book bytes ranks record′ (readBook bytes) refl
-
 -- What a run is where nothing is refused.
 pub run-of :
     (bytes ranks record′ : Bytes) (budget room : ℕ) (book : Book) (t : Term) → readBook bytes ≡ given book → ranksClear book ranks ≡ given tt →
@@ -134,19 +138,21 @@ not-spent done never = inl refl
 not-spent spent never = absurd (never refl)
 not-spent tooLarge never = inr refl
 
-pub run-done-or-too-large : DoneOrTooLarge
-unfolding DoneOrTooLarge Bounded
-run-done-or-too-large bytes ranks record′ book t readable accepted recorded =
-    let cleared : ranksClear book ranks ≡ given tt = sym (check-of-read bytes book ranks readable) ∙ accepted in
-    let clears = ranks-clear-exactly book ranks .0 cleared .1 in
-    let bound = ranks-bound book (read-within-limits bytes book readable) ranks clears t (record-read book record′ t recorded .0) in (
-      bound .0,
-      λ budget room enough roomy. (
-        runFrom (book .rules) budget 0 t,
-        run-of bytes ranks record′ budget room book t readable cleared recorded roomy,
-        not-spent (runFrom (book .rules) budget 0 t .outcome) (never-spent (book .rules) t (bound .0) (bound .1) budget enough),
-      ),
-    )
+run-never-spent : NeverSpent
+unfolding NeverSpent Bounds
+run-never-spent bytes ranks record′ budget room book t N ran read recorded bounds enough e =
+    let a = accepted bytes ranks record′ budget room ran e in
+    let same : a .book ≡ book = cc (a .readable) in
+    let itsTerm : a .term ≡ t = cc (sym (a .recorded) ∙ ap (λ b. readRecord b record′) same ∙ recorded) in
+    let runs : runFrom (book .rules) budget 0 t ≡ ran = ap₂ (λ (b : Book) (u : Term). runFrom (b .rules) budget 0 u) (sym same) (sym itsTerm) ∙ a .runs in
+    not-spent (ran .outcome) (λ s. never-spent (book .rules) t N bounds budget enough (ap (λ (r : Ran). r .outcome) runs ∙ s))
+
+run-not-refused : NotRefused
+unfolding NotRefused
+run-not-refused bytes ranks record′ budget room book t read accepted recorded roomy = (
+  runFrom (book .rules) budget 0 t,
+  run-of bytes ranks record′ budget room book t read (sym (check-of-read bytes book ranks read) ∙ accepted) recorded roomy,
+)
 
 pub demand3 : Demand3
-demand3 = record { comesToRest = comes-to-rest; neverSpent = run-never-spent; doneOrTooLarge = run-done-or-too-large }
+demand3 = record { comesToRest = comes-to-rest; acceptedRanks = accepted-ranks-rest; neverSpent = run-never-spent; notRefused = run-not-refused }

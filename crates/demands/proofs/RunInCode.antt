@@ -1,6 +1,7 @@
 -- Demands 2 and 3 of the running code's `run`: what the definition of a run keeps to, every call that its contract allows keeps to.
 -- Assumes nothing.
 use Prim.Native.Nat.{ℕ}
+use mathlib.Core.Logic.{_⊎_}
 use mathlib.Core.Path.{_≡_, refl, sym, ap, subst, _∙_}
 use Rattle.reply.specs.Reply.{Reply, given, _>>=_}
 use Rattle.reply.specs.Lent.{laid}
@@ -10,13 +11,13 @@ use Rattle.term.specs.Prefix.{recordBytes}
 use Rattle.book.specs.Book.{Book}
 use Rattle.book.specs.Reading.{readBook}
 use Rattle.book.specs.Record.{readRecord}
-use Rattle.steps.specs.Run.{Ran, run, ranBytes}
+use Rattle.steps.specs.Run.{done, tooLarge, Ran, run, ranBytes}
 use Rattle.rewriting.specs.RunMeaning.{Told, toldOf, runTold}
 use Rattle.demands.specs.EntryPoints.{Bytes, answer, bufferAfter, aRun}
 use Rattle.demands.specs.Demand2.{RunYields}
-use Rattle.demands.specs.Demand3.{DoneOrTooLarge}
+use Rattle.demands.specs.Demand3.{NeverSpent, NotRefused}
 use Rattle.demands.specs.InCode.{InCode, AsDefined}
-use Rattle.demands.specs.RunInCode.{Yielded, RunYieldsInCode, ComesToRestInCode}
+use Rattle.demands.specs.RunInCode.{Yielded, RunYieldsInCode, NeverSpentInCode, NotRefusedInCode}
 use Rattle.demands.proofs.Demand2.{demand2}
 use Rattle.demands.proofs.Demand3.{demand3}
 use Rattle.demands.proofs.Functions.{runInCode}
@@ -53,8 +54,12 @@ module _ (code : InCode aRun) (as-defined : AsDefined code) where
         (ran : Ran) → run bytes ranks record′ budget room ≡ given ran → Yielded book t budget (toldOf ran) (code .before call) (code .after call)
     unfolding toldOf RunYields
     yielded book t read recorded ran ran-so =
-        let (steps, means) = demand2 .runs bytes ranks record′ budget room book t ran read recorded ran-so in
-        record { reached = ran .reached; steps = steps; means = means; long = refl; holds = laid-so ran ran-so }
+        record {
+          reached = ran .reached;
+          yields = demand2 .runs bytes ranks record′ budget room book t ran read recorded ran-so;
+          long = refl;
+          holds = laid-so ran ran-so;
+        }
 
   yields : RunYieldsInCode code
   unfolding RunYieldsInCode
@@ -63,18 +68,24 @@ module _ (code : InCode aRun) (as-defined : AsDefined code) where
       subst (λ (x : Told). Yielded book t budget x (code .before call) (code .after call)) tells
       (yielded call bytes ranks record′ budget room asked book t read recorded ran ran-so)
 
-  comes-to-rest : ComesToRestInCode code
-  unfolding ComesToRestInCode DoneOrTooLarge toldOf
-  comes-to-rest bytes ranks record′ book t read accepted recorded =
-      let (N, rests) = demand3 .doneOrTooLarge bytes ranks record′ book t read accepted recorded in (
-        N,
-        λ call budget room asked enough roomy.
-            let (ran, ran-so, outcome) = rests budget room enough roomy in
-            (toldOf ran, told-so call bytes ranks record′ budget room asked ran ran-so, outcome),
-      )
+  never-spent : NeverSpentInCode code
+  unfolding NeverSpentInCode NeverSpent toldOf
+  never-spent call bytes ranks record′ budget room book t N told asked read recorded bounds enough e =
+      let (ran, ran-so, tells) = ran-as call bytes ranks record′ budget room asked told e in
+      subst (λ (x : Told). (x .outcome ≡ done) ⊎ (x .outcome ≡ tooLarge)) tells
+      (demand3 .neverSpent bytes ranks record′ budget room book t N ran read recorded bounds enough ran-so)
+
+  not-refused : NotRefusedInCode code
+  unfolding NotRefusedInCode NotRefused
+  not-refused call bytes ranks record′ budget room book t asked read accepted recorded roomy =
+      let (ran, ran-so) = demand3 .notRefused bytes ranks record′ budget room book t read accepted recorded roomy in
+      (toldOf ran, told-so call bytes ranks record′ budget room asked ran ran-so)
 
 pub run-yields-in-code : RunYieldsInCode runInCode
 run-yields-in-code = yields runInCode run-as-defined
 
-pub run-comes-to-rest-in-code : ComesToRestInCode runInCode
-run-comes-to-rest-in-code = comes-to-rest runInCode run-as-defined
+pub run-never-spent-in-code : NeverSpentInCode runInCode
+run-never-spent-in-code = never-spent runInCode run-as-defined
+
+pub run-not-refused-in-code : NotRefusedInCode runInCode
+run-not-refused-in-code = not-refused runInCode run-as-defined

@@ -4,11 +4,15 @@ use mathlib.Core.List.{List, List·Memᴰ}
 use mathlib.Core.Logic.{_↔_}
 use mathlib.Core.Option.{Option, none, some}
 use mathlib.Core.Path.{_≡_}
+use lib.Dec.{T}
 use lib.ListN.{length}
 use Rattle.reply.specs.Reply.{given}
 use Rattle.term.specs.Tables.{rankBits}
-use Rattle.term.specs.Term.{Term}
+use Rattle.term.specs.Term.{Term, size, over, variableFree}
+use Rattle.term.specs.Prefix.{recordBytes}
 use Rattle.book.specs.Book.{Book, Rule, symbols}
+use Rattle.book.specs.Bytes.{bookBytes}
+use Rattle.book.specs.Limits.{WithinLimits}
 use Rattle.book.specs.Reading.{readBook}
 use Rattle.book.specs.Record.{readRecord}
 use Rattle.order.specs.Precedence.{StrictPrecedence, Above}
@@ -21,9 +25,19 @@ use Rattle.clauses.specs.Dimacs.{readDimacs}
 use Rattle.answer.specs.Ranks.{ranksFromAnswer}
 use Rattle.printed_answer.specs.Printed.{Printed, printedAnswer, allLiterals, TellsRanks}
 use Rattle.printed_answer.specs.Usual.{usualAnswer}
-use Rattle.steps.specs.Step.{Step, stepOf, OwnSteps}
-use Rattle.steps.specs.Run.{Ran, Means, run}
+use Rattle.steps.specs.Step.{Step, stepOf}
+use Rattle.steps.specs.Run.{Ran, Yields, run}
 use Rattle.demands.specs.EntryPoints.{Bytes}
+
+-- "Bytes of a book": exactly the bytes of the books that keep to the limits are read, each to its book ..
+unfoldable pub BooksAreRead : Type 0
+BooksAreRead = (bytes : Bytes) (book : Book) → (readBook bytes ≡ given book) ↔ (WithinLimits book × (bytes ≡ bookBytes book))
+
+-- .. and as a record exactly the bytes of the terms over the book's symbols, "kind 3 nodes only .., at most 256 nodes".
+unfoldable pub RecordsAreRead : Type 0
+RecordsAreRead =
+    (book : Book) (bytes : Bytes) (t : Term) →
+    (readRecord book bytes ≡ given t) ↔ (T (over (book .arities) t) × T (variableFree t) × (size t ≤ 256) × (bytes ≡ recordBytes t))
 
 -- A satisfying assignment of a file: of the clauses that a DIMACS reader finds in its bytes.
 pub record SatisfyingAssignment (file : Bytes) (α : Assignment) : Type 0 where
@@ -111,13 +125,17 @@ AcceptedAnswerExactlyIfCleared =
     (bytes : Bytes) (book : Book) (room : ℕ) → readBook bytes ≡ given book → symbols book ≤ room →
     AcceptedAnswer bytes room ↔ SomePrecedenceClears book
 
--- "A run yields the term and the step count of document 01's rewriting rules": as many of its own steps lead from the record to the term,
--- and the outcome is the one that the term reached has.
+-- "A run yields the term and the step count of the rewriting rules in document 01": so many of its own steps, none above 256 nodes and no
+-- more than the budget, lead from the record to the term, and the outcome is the one that the term reached has ..
 unfoldable pub RunYields : Type 0
 RunYields =
     (bytes ranks record′ : Bytes) (budget room : ℕ) (book : Book) (t : Term) (ran : Ran) → readBook bytes ≡ given book →
-    readRecord book record′ ≡ given t → run bytes ranks record′ budget room ≡ given ran →
-    OwnSteps (book .rules) (ran .steps) t (ran .reached) × Means (ran .outcome) (book .rules) budget (ran .steps) (ran .reached)
+    readRecord book record′ ≡ given t → run bytes ranks record′ budget room ≡ given ran → Yields (book .rules) budget t ran
+
+-- .. and nothing but one outcome, one count and one term is yielded.
+unfoldable pub YieldsOnce : Type 0
+YieldsOnce =
+    (rules : List Rule) (budget : ℕ) (t : Term) (ran ran′ : Ran) → Yields rules budget t ran → Yields rules budget t ran′ → ran ≡ ran′
 
 -- Document 01's step is one of the free steps, and it finds none exactly if there is none.
 unfoldable pub OwnStepIsFree : Type 0
@@ -126,6 +144,8 @@ OwnStepIsFree =
     ((t : Term) → stepOf rules s ≡ some t → Step rules s t) × ((stepOf rules s ≡ none) ↔ ((t : Term) → Step rules s t → ⊥))
 
 pub record Demand2 : Type 1 where
+  pub books : BooksAreRead
+  pub records : RecordsAreRead
   pub satisfiable : SatisfiableExactlyIfCleared
   pub rankBitsClear : RankBitsClear
   pub ranksExtend : ClearingRanksExtend
@@ -136,4 +156,5 @@ pub record Demand2 : Type 1 where
   pub usualAnswers : UsualAnswersAreAccepted
   pub acceptedAnswer : AcceptedAnswerExactlyIfCleared
   pub runs : RunYields
+  pub onlyOneRun : YieldsOnce
   pub ownSteps : OwnStepIsFree

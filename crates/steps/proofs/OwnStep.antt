@@ -120,7 +120,7 @@ mutual
 -- So many own steps are so many free steps.
 pub own-steps-are-free : {rules : List Rule} {n : ℕ} {s t : Term} → OwnSteps rules n s t → Steps rules n s t
 own-steps-are-free OwnSteps.stay = Steps.stay
-own-steps-are-free {rules} (next {s = s} {t = t} p steps) = step (own-is-free rules s t p) (own-steps-are-free steps)
+own-steps-are-free {rules} (next {s = s} {t = t} p small steps) = step (own-is-free rules s t p) (own-steps-are-free steps)
 
 pub own-step-is-free :
     (rules : List Rule) (s : Term) →

@@ -1,18 +1,19 @@
--- What a run yields, that a run with a budget that bounds the steps is never spent, and that budgets add up. A run either ends at the term
+-- What a run yields and that this settles its answer, that a run with a budget that bounds the steps is never spent, and that budgets add up. A run either ends at the term
 -- at hand, in one of three ways, or makes one own step and goes on: every law goes by induction over these four cases. Assumes nothing.
 use Prim.Native.Nat.{ℕ, zero, suc, _+_, _≤_, suc-le-suc}
-use native.Mathlib.Nat.{add-zero, zero-add, add-suc, suc-add}
+use native.Mathlib.Nat.{add-zero, zero-add, add-suc, suc-add, le-of-suc-le-suc}
 use native.Mathlib.Omega.{arith}
 use mathlib.Core.Bool.{Bool, true, false}
 use mathlib.Core.List.{List}
 use mathlib.Core.Option.{Option, none, some}
 use mathlib.Core.Path.{_≡_, refl, sym, ap, subst, _∙_}
-use lib.Dec.{leb, nleb→lt}
+use borrow.Author.Tests.{le-leb, lt-leb}
+use lib.Dec.{leb, leb→le, nleb→lt}
 use Rattle.term.specs.Term.{Term, size}
 use Rattle.book.specs.Book.{Rule}
-use Rattle.steps.specs.Step.{Steps, stepOf, OwnSteps, next}
-use Rattle.steps.specs.Run.{Outcome, done, spent, tooLarge, Ran, Means, runFrom}
-use Rattle.steps.proofs.OwnStep.{own-steps-are-free}
+use Rattle.steps.specs.Step.{Step, Steps, step, stepOf, OwnSteps, next}
+use Rattle.steps.specs.Run.{Outcome, done, spent, tooLarge, Ran, Means, Yields, runFrom}
+use Rattle.steps.proofs.OwnStep.{own-steps-are-free, own-step-is-free}
 
 -- A run that ends where it stands.
 abbrev pub ended : Outcome → ℕ → Term → Ran
@@ -83,38 +84,69 @@ means-one-more done rules budget steps t m = m
 means-one-more spent rules budget steps t m = (ap suc (m .0), m .1)
 means-one-more tooLarge rules budget steps t m = (suc-le-suc (m .0), m .1)
 
--- What a run yields after `made` steps: n own steps more.
-Yields : List Rule → (budget made : ℕ) → Term → Ran → Type 0
-Yields rules budget made t ran =
-    (n : ℕ) × (ran .steps ≡ made + n) × OwnSteps rules n t (ran .reached) × Means (ran .outcome) rules budget n (ran .reached)
+means-one-less :
+    (outcome : Outcome) (rules : List Rule) (budget steps : ℕ) (t : Term) →
+    Means outcome rules (suc budget) (suc steps) t → Means outcome rules budget steps t
+unfolding Means
+means-one-less done rules budget steps t m = m
+means-one-less spent rules budget steps t m = (omega (arith, m .0), m .1)
+means-one-less tooLarge rules budget steps t m = (omega (arith, m .0), m .1)
 
-yields-cases : (rules : List Rule) → RunCases rules (Yields rules)
-unfolding Yields Means
+-- What a run yields after `made` steps: n own steps more.
+YieldsAfter : List Rule → (budget made : ℕ) → Term → Ran → Type 0
+YieldsAfter rules budget made t ran =
+    (n : ℕ) × (ran .steps ≡ made + n) × (n ≤ budget) × OwnSteps rules n t (ran .reached) × Means (ran .outcome) rules budget n (ran .reached)
+
+yields-cases : (rules : List Rule) → RunCases rules (YieldsAfter rules)
+unfolding YieldsAfter Means
 yields-cases rules = record {
-  isDone = λ budget made t p. (0, omega arith, OwnSteps.stay, p);
-  isSpent = λ made t t′ p. (0, omega arith, OwnSteps.stay, (refl, (t′, p)));
-  isTooLarge = λ budget made t t′ p q. (0, omega arith, OwnSteps.stay, (omega arith, (t′, p, nleb→lt (size t′) 256 (rw q tt))));
+  isDone = λ budget made t p. (0, omega arith, omega arith, OwnSteps.stay, p);
+  isSpent = λ made t t′ p. (0, omega arith, omega arith, OwnSteps.stay, (refl, (t′, p)));
+  isTooLarge = λ budget made t t′ p q. (0, omega arith, omega arith, OwnSteps.stay, (omega arith, (t′, p, nleb→lt (size t′) 256 (rw q tt))));
   goesOn =
-      λ budget made t t′ ran p q (n, e, steps, means).
-      (suc n, omega arith, next p steps, means-one-more (ran .outcome) rules budget n (ran .reached) means);
+      λ budget made t t′ ran p q (n, e, few, steps, means).
+      (suc n, omega arith, suc-le-suc few, next p (leb→le (size t′) 256 (rw q tt)) steps, means-one-more (ran .outcome) rules budget n (ran .reached) means);
 }
 
-pub run-yields :
-    (rules : List Rule) (budget : ℕ) (t : Term) →
-    OwnSteps rules (runFrom rules budget 0 t .steps) t (runFrom rules budget 0 t .reached) ×
-    Means (runFrom rules budget 0 t .outcome) rules budget (runFrom rules budget 0 t .steps) (runFrom rules budget 0 t .reached)
-unfolding Yields
+pub run-yields : (rules : List Rule) (budget : ℕ) (t : Term) → Yields rules budget t (runFrom rules budget 0 t)
+unfolding YieldsAfter
 run-yields rules budget t =
-    let (n, e, steps, means) = every-run rules (Yields rules) (yields-cases rules) budget 0 t in
-    let n≡ : n ≡ runFrom rules budget 0 t .steps = sym (zero-add n) ∙ sym e in (
-      subst (λ (k : ℕ). OwnSteps rules k t (runFrom rules budget 0 t .reached)) n≡ steps,
-      subst (λ (k : ℕ). Means (runFrom rules budget 0 t .outcome) rules budget k (runFrom rules budget 0 t .reached)) n≡ means,
-    )
+    let (n, e, few, steps, means) = every-run rules (YieldsAfter rules) (yields-cases rules) budget 0 t in
+    let n≡ : n ≡ runFrom rules budget 0 t .steps = sym (zero-add n) ∙ sym e in
+    record {
+      steps = subst (λ (k : ℕ). OwnSteps rules k t (runFrom rules budget 0 t .reached)) n≡ steps;
+      within = subst (λ (k : ℕ). k ≤ budget) n≡ few;
+      means = subst (λ (k : ℕ). Means (runFrom rules budget 0 t .outcome) rules budget k (runFrom rules budget 0 t .reached)) n≡ means;
+    }
+
+-- And nothing else yields that: where a run stands after `made` steps, n own steps more and the outcome of the term reached settle its answer.
+settled-after :
+    (rules : List Rule) (outcome : Outcome) (budget made : ℕ) {n : ℕ} {t u : Term} → OwnSteps rules n t u → n ≤ budget → Means outcome rules budget n u →
+    ended outcome (made + n) u ≡ runFrom rules budget made t
+unfolding Means
+settled-after rules done budget made {t = t} OwnSteps.stay few means =
+    ap (λ (k : ℕ). ended done k t) (add-zero made) ∙ sym (run-done rules made t budget means)
+settled-after rules spent zero made {t = t} OwnSteps.stay few means =
+    ap (λ (k : ℕ). ended spent k t) (add-zero made) ∙ sym (run-spent rules made t (means .1 .0) (means .1 .1))
+settled-after rules spent (suc budget) made OwnSteps.stay few means = absurd (omega (arith, means .0))
+settled-after rules tooLarge zero made OwnSteps.stay few means = absurd (omega (arith, means .0))
+settled-after rules tooLarge (suc budget) made {t = t} OwnSteps.stay few means =
+    ap (λ (k : ℕ). ended tooLarge k t) (add-zero made)
+    ∙ sym (run-too-large rules made t budget (means .1 .0) (means .1 .1) (lt-leb (size (means .1 .0)) 256 (means .1 .2)))
+settled-after rules outcome zero made (next p small steps) few means = absurd (omega arith)
+settled-after rules outcome (suc budget) made {n = suc n} {t = t} {u = u} (next {t = t′} p small steps) few means =
+    ap (λ (k : ℕ). ended outcome k u) (omega arith)
+    ∙ settled-after rules outcome budget (suc made) steps (le-of-suc-le-suc few) (means-one-less outcome rules budget n u means)
+    ∙ sym (run-goes-on rules made t budget t′ p (le-leb (size t′) 256 small))
+
+pub run-settled : (rules : List Rule) (budget : ℕ) (t : Term) (ran : Ran) → Yields rules budget t ran → ran ≡ runFrom rules budget 0 t
+run-settled rules budget t ran y =
+    ap (λ (k : ℕ). ended (ran .outcome) k (ran .reached)) (sym (zero-add (ran .steps))) ∙ settled-after rules (ran .outcome) budget 0 (y .steps) (y .within) (y .means)
 
 -- One more own step at the end.
-then-one-more : {rules : List Rule} {n : ℕ} {s t u : Term} → OwnSteps rules n s t → stepOf rules t ≡ some u → OwnSteps rules (suc n) s u
-then-one-more OwnSteps.stay p = next p OwnSteps.stay
-then-one-more (next q steps) p = next q (then-one-more steps p)
+then-one-more : {rules : List Rule} {n : ℕ} {s t u : Term} → Steps rules n s t → Step rules t u → Steps rules (suc n) s u
+then-one-more Steps.stay p = step p Steps.stay
+then-one-more (step q steps) p = step q (then-one-more steps p)
 
 -- A spent run has used its budget and could make one more step.
 pub never-spent :
@@ -123,9 +155,9 @@ pub never-spent :
 unfolding Means
 never-spent rules t N within budget N≤budget is-spent =
     let ran : Ran = runFrom rules budget 0 t in
-    let (steps, means) = run-yields rules budget t in
-    let (used, (t′, p)) = subst (λ (o : Outcome). Means o rules budget (ran .steps) (ran .reached)) is-spent means in
-    let too-long : suc (ran .steps) ≤ N = within (suc (ran .steps)) t′ (own-steps-are-free (then-one-more steps p)) in
+    let yields = run-yields rules budget t in
+    let (used, (t′, p)) = subst (λ (o : Outcome). Means o rules budget (ran .steps) (ran .reached)) is-spent (yields .means) in
+    let too-long : suc (ran .steps) ≤ N = within (suc (ran .steps)) t′ (then-one-more (own-steps-are-free (yields .steps)) (own-step-is-free rules (ran .reached) .0 t′ p)) in
     omega arith
 
 -- The answer of a run that some steps led to: they are counted too.

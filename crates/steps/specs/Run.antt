@@ -1,5 +1,5 @@
 -- The run: document 01's steps against a budget.
-use Prim.Native.Nat.{ℕ, zero, suc, _<_}
+use Prim.Native.Nat.{ℕ, zero, suc, _≤_, _<_}
 use mathlib.Core.Bool.{Bool, true, false}
 use mathlib.Core.List.{List}
 use mathlib.Core.Option.{Option, none, some}
@@ -12,7 +12,7 @@ use Rattle.book.specs.Book.{Book, Rule}
 use Rattle.book.specs.Reading.{readBook}
 use Rattle.book.specs.Record.{readRecord}
 use Rattle.order.specs.Clearing.{ranksClear}
-use Rattle.steps.specs.Step.{stepOf}
+use Rattle.steps.specs.Step.{stepOf, OwnSteps}
 
 pub data Outcome : Type 0 where
   done spent tooLarge : Outcome
@@ -47,6 +47,13 @@ unfoldable pub Means : Outcome → List Rule → (budget steps : ℕ) → Term �
 Means done rules budget steps t = stepOf rules t ≡ none
 Means spent rules budget steps t = (steps ≡ budget) × ((t′ : Term) × (stepOf rules t ≡ some t′))
 Means tooLarge rules budget steps t = (steps < budget) × ((t′ : Term) × (stepOf rules t ≡ some t′) × (256 < size t′))
+
+-- "A run yields the term and the step count of the rewriting rules": a run of t answers this exactly if so many own steps, no more than the
+-- budget, lead from t to the term reached, and the outcome is the one that this term has.
+pub record Yields (rules : List Rule) (budget : ℕ) (t : Term) (ran : Ran) : Type 0 where
+  pub steps : OwnSteps rules (ran .steps) t (ran .reached)
+  pub within : ran .steps ≤ budget
+  pub means : Means (ran .outcome) rules budget (ran .steps) (ran .reached)
 
 -- The run of a cleared book: "11, 9", 9 for a "lent buffer under .. 513"; `room` is the lent buffer's length. How the book was cleared is asked
 -- before.

@@ -1,11 +1,11 @@
 -- A step: chosen freely (a relation), and document 01's own (a function); sequences of free steps.
-use Prim.Native.Nat.{ℕ, zero, suc}
+use Prim.Native.Nat.{ℕ, zero, suc, _≤_}
 use mathlib.Core.Bool.{Bool, true, false}
 use mathlib.Core.List.{List, [], _∷_, List·Memᴰ}
 use mathlib.Core.Option.{Option, none, some, Option·map}
 use mathlib.Core.Path.{_≡_}
 use lib.ListN.{getD}
-use Rattle.term.specs.Term.{Term, Args, var, app, nil, cons}
+use Rattle.term.specs.Term.{Term, Args, var, app, nil, cons, size}
 use Rattle.book.specs.Book.{Rule}
 use Rattle.term.specs.Replacement.{Replacement, Occurs, replace}
 use Rattle.steps.specs.Fits.{matching, fits}
@@ -60,7 +60,7 @@ unfoldable mutual
         | none ↦ elim (stepOfArgs rules ts) [ some ts′ ↦ some (cons t ts′) | none ↦ none ]
       ]
 
--- So many of document 01's own steps.
+-- So many of document 01's own steps, each to a term of at most 256 nodes.
 pub data OwnSteps (rules : List Rule) : ℕ → Term → Term → Type 0 where
   stay : {t : Term} → OwnSteps rules zero t t
-  next : {n : ℕ} {s t u : Term} → stepOf rules s ≡ some t → OwnSteps rules n t u → OwnSteps rules (suc n) s u
+  next : {n : ℕ} {s t u : Term} → stepOf rules s ≡ some t → size t ≤ 256 → OwnSteps rules n t u → OwnSteps rules (suc n) s u

@@ -1,2 +1,3 @@
 pub mod Each
 pub mod TermText
+pub mod Settled
