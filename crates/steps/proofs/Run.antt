@@ -105,7 +105,7 @@ yields-cases rules = record {
   isTooLarge = λ budget made t t′ p q. (0, omega arith, omega arith, OwnSteps.stay, (omega arith, (t′, p, nleb→lt (size t′) 256 (rw q tt))));
   goesOn =
       λ budget made t t′ ran p q (n, e, few, steps, means).
-      (suc n, omega arith, suc-le-suc few, next p (leb→le (size t′) 256 (rw q tt)) steps, means-one-more (ran .outcome) rules budget n (ran .reached) means);
+      (suc n, omega arith, suc-le-suc few, next p (omega (arith, leb→le (size t′) 256 (rw q tt))) steps, means-one-more (ran .outcome) rules budget n (ran .reached) means);
 }
 
 pub run-yields : (rules : List Rule) (budget : ℕ) (t : Term) → Yields rules budget t (runFrom rules budget 0 t)
@@ -115,7 +115,7 @@ run-yields rules budget t =
     let n≡ : n ≡ runFrom rules budget 0 t .steps = sym (zero-add n) ∙ sym e in
     record {
       steps = subst (λ (k : ℕ). OwnSteps rules k t (runFrom rules budget 0 t .reached)) n≡ steps;
-      within = subst (λ (k : ℕ). k ≤ budget) n≡ few;
+      within = omega (arith, n≡, few);
       means = subst (λ (k : ℕ). Means (runFrom rules budget 0 t .outcome) rules budget k (runFrom rules budget 0 t .reached)) n≡ means;
     }
 
