@@ -26,7 +26,7 @@ pub record RanksLaid (book : Book) (count : ℕ) (before after : Bytes) : Type 0
   pub holds : after ≡ laid (given ranks) before
 
 pub record AnswersInCode (code : InCode ranksOfAnAnswer) : Type 1 where
-  -- "Ranks are accepted exactly if they make every rule decrease, whoever proposed them": what is accepted clears.
+  -- "Ranks are accepted exactly if they make every rule decrease, whichever solver proposed them": what is accepted clears.
   pub accepted :
       (call : code .Call) (bytes text : Bytes) (room count : ℕ) (book : Book) → code .asked call ≡ (bytes, text, room) →
       readBook bytes ≡ given book → code .answered call ≡ given count → RanksLaid book count (code .before call) (code .after call)

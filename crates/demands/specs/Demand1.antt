@@ -1,5 +1,5 @@
 -- Demand 1: "Every entry point takes arbitrary bytes as book, ranks, record or solver answer, ends, and replies with a result or a numbered
--- refusal. A refusal changes no byte of any lent buffer."
+-- refusal. A refusal changes no byte of any buffer we lend."
 use Prim.Native.Nat.{ℕ}
 use mathlib.Core.List.{List, List·Memᴰ}
 use mathlib.Core.Path.{_≡_}

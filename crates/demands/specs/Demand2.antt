@@ -45,7 +45,7 @@ pub record SatisfyingAssignment (file : Bytes) (α : Assignment) : Type 0 where
   pub reads : readDimacs file ≡ some clauses
   pub satisfies : Satisfies α clauses
 
--- "some strict precedence (ANY irreflexive, transitive relation) makes every rule decrease"
+-- "some strict precedence makes every rule decrease": any irreflexive, transitive relation.
 pub record SomePrecedenceClears (book : Book) : Type 1 where
   pub above : ℕ → ℕ → Type 0
   pub strict : StrictPrecedence (symbols book) above
@@ -55,8 +55,8 @@ pub record SomePrecedenceClears (book : Book) : Type 1 where
 unfoldable pub rankBitsOf : Book → Assignment → List ℕ
 rankBitsOf book α = ranksOf (symbols book) (rankBits (symbols book)) α
 
--- "The clause file has a satisfying assignment exactly if some strict precedence (ANY irreflexive, transitive relation) makes every rule
--- decrease in the lexicographic path order."
+-- "The clause file has a satisfying assignment exactly if some strict precedence makes every rule decrease in the lexicographic path order of
+-- source document 003."
 unfoldable pub SatisfiableExactlyIfCleared : Type 1
 SatisfiableExactlyIfCleared =
     (bytes : Bytes) (book : Book) → readBook bytes ≡ given book →
@@ -88,7 +88,7 @@ AcceptedExactlyIfDecreasing =
     (bytes : Bytes) (book : Book) (ranks : List ℕ) → readBook bytes ≡ given book →
     (checkRanks bytes ranks ≡ given tt) ↔ ((length ranks ≡ symbols book) × Clears (Above ranks) (book .rules))
 
--- .. "whoever proposed them": an answer's ranks are accepted only if the rank check accepts them.
+-- .. "whichever solver proposed them": an answer's ranks are accepted only if the rank check accepts them.
 unfoldable pub AnswersAreChecked : Type 0
 AnswersAreChecked =
     (bytes text : Bytes) (room : ℕ) (ranks : List ℕ) → ranksFromAnswer bytes text room ≡ given ranks → checkRanks bytes ranks ≡ given tt

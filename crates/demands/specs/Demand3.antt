@@ -41,7 +41,7 @@ NotRefused =
     (bytes ranks record′ : Bytes) (budget room : ℕ) (book : Book) (t : Term) → readBook bytes ≡ given book → checkRanks bytes ranks ≡ given tt →
     readRecord book record′ ≡ given t → 513 ≤ room → (ran : Ran) × (run bytes ranks record′ budget room ≡ given ran)
 
--- "cleared by some ranks": ranks that are accepted, by the rank check or from a solver's answer, are ranks that clear.
+-- "cleared by some ranks": ranks that the rank check accepts give such an N.
 unfoldable pub AcceptedRanksRest : Type 0
 AcceptedRanksRest =
     (bytes ranks : Bytes) (book : Book) (t : Term) → readBook bytes ≡ given book → checkRanks bytes ranks ≡ given tt →

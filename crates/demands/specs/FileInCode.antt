@@ -37,8 +37,8 @@ pub record FileInCode (code : InCode aBlock) : Type 1 where
       512 ≤ room →
       (number < length (fileBlocks book) → (many : ℕ) × (code .answered call ≡ given many))
       × (length (fileBlocks book) ≤ number → code .answered call ≡ refused (10 at 0))
-  -- "The clause file has a satisfying assignment exactly if some strict precedence (ANY irreflexive, transitive relation) makes every rule
-  -- decrease".
+  -- "The clause file has a satisfying assignment exactly if some strict precedence makes every rule decrease in the lexicographic path order of
+  -- source document 003."
   pub satisfiable :
       (bytes : Bytes) (book : Book) (file : Bytes) → readBook bytes ≡ given book → MadeFrom code bytes 0 file →
       ((α : Assignment) × SatisfyingAssignment file α) ↔ SomePrecedenceClears book

@@ -21,8 +21,8 @@ pub record AsDefined {e : EntryPoint} (code : InCode e) : Type 0 where
   pub answers : (call : code .Call) → code .answered call ≡ answer e (code .asked call)
   pub writes : (call : code .Call) → code .after call ≡ bufferAfter e (code .asked call) (code .before call)
 
--- Demand 1 of a function: "takes arbitrary bytes ..", "replies with a result or a numbered refusal. A refusal changes no byte of any lent
--- buffer."
+-- Demand 1 of a function: "takes arbitrary bytes ..", "replies with a result or a numbered refusal. A refusal changes no byte of any
+-- buffer we lend."
 pub record DemandedInCode {e : EntryPoint} (code : InCode e) : Type 0 where
   pub takes : (handed : code .Handed) → code .Required handed
   pub replies : (call : code .Call) → ResultOrRefusal (e .numbers) (code .answered call)
