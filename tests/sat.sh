@@ -29,7 +29,7 @@ need_solvers() {
     [ -z "$missing" ] || exit 2
 }
 
-# answer SOLVER FILE: the solver's s and v lines, by the table that the vet's command has.
+# answer SOLVER FILE..: the solver's s and v lines, by the table that the vet's command has; of several files, in FILE.SOLVER.
 answer() {
-    python3 bin/desk/solvers.py "$1" "$2"
+    python3 bin/desk/solvers.py "$@"
 }

@@ -1,6 +1,6 @@
 """SAT solvers: how each is called, and how what it prints becomes the s and v lines of an answer. None is trusted.
 
-    solvers.py NAME FILE    prints the answer of one of them to a clause file
+    solvers.py NAME FILE..    prints the answer of one of them to a clause file, or writes FILE.NAME beside each of several
 """
 import os
 import shlex
@@ -212,6 +212,9 @@ def version(found):
 
 
 if __name__ == "__main__":
-    with open(sys.argv[2], "rb") as clause_file:
-        answered = solve(find(sys.argv[1], lambda *_: False, print), clause_file.read(), 600)
-    sys.stdout.buffer.write(answered.text)
+    asked, paths = find(sys.argv[1], lambda *_: False, print), sys.argv[2:]
+    for path in paths:
+        with open(path, "rb") as clause_file:
+            answered = solve(asked, clause_file.read(), 600)
+        with open(f"{path}.{sys.argv[1]}", "wb") if len(paths) > 1 else sys.stdout.buffer as written:
+            written.write(answered.text)

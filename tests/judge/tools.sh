@@ -16,7 +16,7 @@ build_judge() {
     need rustc rustc
     need cc "gcc libc6-dev"
     mkdir -p "$BUILT"
-    rustc -O --edition 2021 -o "$BUILT/judge" tests/judge/main.rs
+    [ -x "$BUILT/judge" ] && [ -z "$(find tests/judge -name '*.rs' -newer "$BUILT/judge")" ] || rustc -O --edition 2021 -o "$BUILT/judge" tests/judge/main.rs
 }
 
 judge() {
