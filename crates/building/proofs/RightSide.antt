@@ -16,8 +16,7 @@ use Rattle.term.proofs.PrefixAt.{prefix-length}
 use Rattle.building.specs.Right.{startOf, TermAt}
 use Rattle.building.specs.Right.{Held}
 use Rattle.building.specs.declared.Match.{Match}
-use Rattle.steps.proofs.Joined.{no-symbol, replaceAll-joined, occurs-passed}
-use Rattle.steps.proofs.StepBytes.{prefixes-joined}
+use Rattle.steps.proofs.Joined.{prefixes-joined, no-symbol, replaceAll-joined, occurs-passed}
 
 -- The terms behind each other, from a node of the right side on: their bytes are still to be laid.
 pub record Ahead (book arities : List ℕ) (r : Term) (σ : Replacement) (d right : ℕ) (rest : List ℕ) : Type 0 where

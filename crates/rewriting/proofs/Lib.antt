@@ -1,4 +1,3 @@
-pub mod Questions
 pub mod TakingTurns
 pub mod RecordRuns
 pub mod RunsTo

@@ -25,16 +25,8 @@ use Rattle.rewriting.specs.RunMeaning.{Told, toldOf, runTold, runMeaning
 use Rattle.rewriting.specs.declared.running.Reached.{Reached}
 use Rattle.rewriting.specs.declared.running.RunReply.{RunReply}
 use Rattle.rewriting.specs.declared.running.RunReply.the-variants.{RanTo}
+use Rattle.steps.proofs.Questions.{at-beginning}
 use Rattle.building.proofs.LaidDown.{front-copied}
-
--- A term stands in any bytes that begin as those that it stands in.
-at-beginning : {bytes arities : List ℕ} {t : Term} {e : ℕ} (l : List ℕ) → At bytes arities 0 t e → take e l ≡ take e bytes → At (take e l) arities 0 t e
-at-beginning {bytes} {arities} {t} {e} l h p =
-    let long : e ≡ 2 * size t = omega (arith, at-end h) in
-    let same : e - 0 ≡ e = omega arith in
-    let its : take e l ≡ prefix t = p ∙ ap (λ (n : ℕ). take n bytes) (sym same) ∙ at-prefix h in
-    subst (λ (n : ℕ). At (take e l) arities 0 t n) (omega arith)
-    (prefix-at t 0 (at-over h) (ap (take (length (prefix t))) its ∙ take-length (prefix t)))
 
 -- The record's term in a working buffer.
 pub term-copied :

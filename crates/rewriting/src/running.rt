@@ -15,7 +15,7 @@ ghost use Rattle.term.specs.Term.{Term};
 ghost use Rattle.term.specs.At.{At};
 ghost use Rattle.book.specs.Meaning.{bookAt};
 ghost use Rattle.steps.specs.Run.{runFrom, ranCleared, run};
-ghost use Rattle.stepping.specs.Runnable.{rulesIn, Runnable};
+ghost use Rattle.matching.specs.Runnable.{rulesIn, Runnable};
 ghost use Rattle.rewriting.specs.Turns.{TermIn, Holding, Turned, RunTo};
 ghost use Rattle.rewriting.specs.RunMeaning.{RecordAt, RunsTo};
 

@@ -10,13 +10,13 @@ use Rattle.term.specs.Replacement.{Occurs}
 use Rattle.term.specs.At.{At}
 use Rattle.book.specs.Book.{Rule}
 use Rattle.book.specs.Meaning.{bookAt}
-use Rattle.book.specs.WasRead.{ReadFrom}
 use Rattle.book.specs.declared.Book.{Book as Places}
-use Rattle.book.proofs.WasRead.{read-stands, read-limits, left-limits, right-limits}
+use Rattle.book.proofs.WasRead.{read-stands, read-limits, right-limits}
 use Rattle.steps.specs.Step.{NoNewVariable, ruleOf}
 use Rattle.steps.proofs.StaysOver.{rule-member}
-use Rattle.stepping.specs.Runnable.{rulesIn, Runnable}
-use Rattle.stepping.specs.FirstPlace.{LeftsAt}
+use Rattle.matching.specs.Runnable.{rulesIn, Runnable}
+use Rattle.matching.specs.FirstPlace.{LeftsAt}
+use Rattle.matching.proofs.LeftsAt.{lefts-stand}
 
 -- Where the right side of rule i ends, two bytes a node.
 abbrev pub rightEnd : Places → (i : ℕ) → ℕ
@@ -34,16 +34,6 @@ abbrev none : Rule
 none = record { left = var 0; right = var 0 }
 
 module _ {bytes : List ℕ} {places : Places} where
-  pub lefts-stand : ReadFrom bytes places → LeftsAt bytes (places .arities) (places .rules) (places .«left_at») (places .«left_nodes») (rulesIn bytes places)
-  lefts-stand read =
-      let stands = read-stands read in
-      record {
-        counted = stands .ruleCount;
-        few = omega (arith, stands .ruleCount, stands .fewRules);
-        lefts = λ i p. stands .left i none (omega (arith, stands .ruleCount)) .stands;
-        variables = λ i p x o. let small = left-limits (read-limits read) i none p .variables x o in omega arith;
-      }
-
   pub rules-stand : Runnable bytes places → RulesAt bytes places (rulesIn bytes places)
   unfolding NoNewVariable
   rules-stand runs =

@@ -1,5 +1,1 @@
-pub mod Alike
-pub mod Table
-pub mod Runnable
-pub mod FirstPlace
 pub mod Stepped

@@ -1,17 +1,14 @@
 // One step of a run: the place and the rule are found, and the next term is built.
-mod matching;
-mod placing;
-
 use book::Book;
 use building::build;
 use building::right_length;
-use placing::first_place;
+use matching::first_place;
 ghost use Prim.Native.Nat.{_≤_};
 ghost use lib.ListN.{length};
 ghost use Rattle.term.specs.Term.{Term};
 ghost use Rattle.term.specs.At.{At};
-ghost use Rattle.stepping.specs.Runnable.{rulesIn, Runnable};
-ghost use Rattle.stepping.specs.FirstPlace.{Whole};
+ghost use Rattle.matching.specs.Runnable.{rulesIn, Runnable};
+ghost use Rattle.matching.specs.FirstPlace.{Whole};
 ghost use Rattle.stepping.specs.Stepped.{Tells};
 
 // How a run ends.

@@ -1,12 +1,14 @@
--- Cases of the run and the argument question, computed. Assumes nothing.
+-- Cases of the run, the next step and the argument question, computed. Assumes nothing.
 use Prim.Native.Nat.{ℕ}
 use mathlib.Core.Path.{_≡_, refl}
 use mathlib.Core.List.{List, [], _∷_, _++_, flatten}
+use mathlib.Core.Option.{none, some}
 use lib.ListN.{length, replicate}
 use Rattle.reply.specs.Reply.{Reply, Attempt, given, refused, _at_, _>>=_}
 use Rattle.reply.specs.Lent.{laid}
 use Rattle.term.specs.Term.{Term, Args, var, app, nil, cons, size}
 use Rattle.book.specs.Examples.{adding, oneAndNone}
+use Rattle.steps.specs.NextStep.{nextStep}
 use Rattle.steps.specs.Run.{Outcome, done, spent, tooLarge, Ran, run, ranBytes}
 use Rattle.steps.specs.Argument.{Part, argument}
 use Rattle.steps.specs.Computing.{computing}
@@ -79,6 +81,23 @@ the-short-buffer = refl
 the-term-and-its-end : laid (ranBytes (run choosing (0 ∷ 0 ∷ 1 ∷ 1 ∷ []) (3 ∷ 2 ∷ 3 ∷ 1 ∷ 5 ∷ []) 9 513)) (7 ∷ 7 ∷ 7 ∷ 7 ∷ []) ≡ 3 ∷ 0 ∷ 5 ∷ 7 ∷ []
 unfolding computing choosing
 the-term-and-its-end = refl
+
+-- The next step is the one that the run makes.
+the-second-rule-at-the-root : nextStep adding (0 ∷ 0 ∷ 1 ∷ []) oneAndNone ≡ given (some (record { rule = 1; place = 0 }))
+unfolding computing
+the-second-rule-at-the-root = refl
+
+the-lowest-rule-inside-first : nextStep choosing (0 ∷ 0 ∷ 1 ∷ 1 ∷ []) (3 ∷ 3 ∷ 3 ∷ 1 ∷ 3 ∷ 2 ∷ 3 ∷ 2 ∷ 3 ∷ 0 ∷ 5 ∷ []) ≡ given (some (record { rule = 0; place = 6 }))
+unfolding computing choosing
+the-lowest-rule-inside-first = refl
+
+at-rest : nextStep choosing (0 ∷ 0 ∷ 1 ∷ 1 ∷ []) (3 ∷ 3 ∷ 3 ∷ 0 ∷ 3 ∷ 1 ∷ 5 ∷ []) ≡ given none
+unfolding computing choosing
+at-rest = refl
+
+ranks-before-the-record : nextStep choosing (0 ∷ 0 ∷ 0 ∷ 0 ∷ []) (3 ∷ 2 ∷ 5 ∷ []) ≡ refused (8 at 0)
+unfolding computing choosing
+ranks-before-the-record = refl
 
 first-argument : argument adding oneAndNone 0 ≡ given (record { start = 2; length = 4 })
 unfolding computing

@@ -1,13 +1,20 @@
--- Argument lists one after another: what a replacement makes of them, and where variables occur. A symbol that both sides have is passed
+-- Argument lists one after another: their bytes, what a replacement makes of them, and where variables occur. A symbol that both sides have is passed
 -- without changing either. Assumes nothing.
 use Prim.Native.Nat.{ℕ, suc}
+use mathlib.Core.List.{List, _++_, append-assoc}
 use mathlib.Core.Logic.{_↔_, _⊎_, inl, inr, ⊎-elim}
 use mathlib.Core.Path.{_≡_, refl, sym, ap, ap₂, _∙_}
 use native.Mathlib.Omega.{arith}
 use Rattle.term.specs.Term.{Term, Args, var, app, nil, cons, count}
 use Rattle.term.specs.Root.{arguments}
+use Rattle.term.specs.Prefix.{prefix, prefixes}
 use Rattle.term.specs.Replacement.{Replacement, replace, replaceAll, OccursIn, it, under, first, later}
 use Rattle.term.proofs.At.{joined}
+
+pub prefixes-joined : (ss ts : Args) → prefixes (joined ss ts) ≡ prefixes ss ++ prefixes ts
+unfolding prefix joined
+prefixes-joined nil ts = refl
+prefixes-joined (cons s ss) ts = ap (λ (w : List ℕ). prefix s ++ w) (prefixes-joined ss ts) ∙ sym (append-assoc (prefix s) (prefixes ss) (prefixes ts))
 
 pub replaceAll-joined : (σ : Replacement) (ss ts : Args) → replaceAll σ (joined ss ts) ≡ joined (replaceAll σ ss) (replaceAll σ ts)
 unfolding replace joined

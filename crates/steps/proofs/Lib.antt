@@ -3,12 +3,14 @@ pub mod Fits
 pub mod Joined
 pub mod Chosen
 pub mod OwnStep
-pub mod StepBytes
+pub mod NextStep
 pub mod Finitely
 pub mod Bound
 pub mod Run
 pub mod NoNewVariable
+pub mod Questions
 pub mod RanCleared
+pub mod NextAsked
 pub mod ArgumentAsked
 pub mod StaysOver
 pub mod StaysARecord

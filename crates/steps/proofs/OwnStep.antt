@@ -30,13 +30,13 @@ none-fits rules s p rule m h = none-chosen rules s (map-eq-none-iff (λ (rule : 
 
 -- The own step of an application and of arguments, by what the parts answer.
 module _ (rules : List Rule) where
-  by-arguments :
+  pub by-arguments :
       (f : ℕ) (ss : Args) (o : Option Args) → stepOfArgs rules ss ≡ o →
       stepOf rules (app f ss) ≡ (elim o [ some ts ↦ some (app f ts) | none ↦ rewritten rules (app f ss) ])
   unfolding stepOf
   by-arguments f ss o p = ap {B = Option Term} (λ o′. elim o′ [ some ts ↦ some (app f ts) | none ↦ rewritten rules (app f ss) ]) p
 
-  by-first-and-later :
+  pub by-first-and-later :
       (s : Term) (ss : Args) (o : Option Term) (o′ : Option Args) → stepOf rules s ≡ o → stepOfArgs rules ss ≡ o′ →
       stepOfArgs rules (cons s ss) ≡ (elim o [ some t ↦ some (cons t ss) | none ↦ elim o′ [ some ts ↦ some (cons s ts) | none ↦ none ] ])
   unfolding stepOf

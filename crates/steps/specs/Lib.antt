@@ -1,5 +1,6 @@
 pub mod Fits
 pub mod Step
+pub mod NextStep
 pub mod Run
 pub mod Argument
 pub mod Computing

@@ -13,15 +13,15 @@ use Rattle.term.specs.Replacement.{replace}
 use Rattle.term.specs.Prefix.{prefix}
 use Rattle.term.specs.At.{At}
 use Rattle.book.specs.Book.{Rule}
-use Rattle.stepping.specs.Runnable.{rulesIn}
-use Rattle.stepping.specs.FirstPlace.{StepAt}
+use Rattle.matching.specs.Runnable.{rulesIn}
 use Rattle.steps.specs.Step.{ruleOf}
 use Rattle.steps.specs.Run.{Means}
+use Rattle.steps.proofs.NextStep.{not-taken}
 use Rattle.building.specs.Right.{Within}
 use Rattle.building.specs.declared.Place.{Place}
 use Rattle.stepping.specs.Stepped.{outcomeOf, Tells}
 use Rattle.stepping.proofs.RulesAt.{rightEnd, RulesAt, rules-stand}
-use Rattle.stepping.proofs.OneStep.{rule-small, right-within, under-match, right-held, right-stands, right-there, place-within, made-few, next-length, next-in}
+use Rattle.stepping.proofs.OneStep.{NextAt, next-at, rule-small, right-within, under-match, right-held, right-stands, right-there, place-within, made-few, next-length, next-in}
 use Rattle.stepping.proofs.step.Statement.{statement}
 use Rattle.stepping.proofs.step.Tie as tie
 
@@ -31,7 +31,8 @@ first-place-requires c κs = search needs
 returns : tie.Need-returns
 unfolding Tells Means outcomeOf
 returns c t k =
-    (c .before .before .first-place .ensures t k .nowhere (not-true (c .before .before .first-place .result .fit .table .fits) (c .if1 .taken)), refl)
+    let found = c .before .before .first-place in
+    (not-taken _ 0 t (found .ensures t k .nowhere (not-true (found .result .fit .table .fits) (c .if1 .taken)) .0), refl)
 
 -- A rule fits: the step of whatever term stands there.
 module _ (c : tie.Else1) where
@@ -46,11 +47,12 @@ module _ (c : tie.Else1) where
 
   step-at :
       {t : Term} → At (now (start .args .bytes)) (start .args .t2 .arities) 0 t (length (now (start .args .bytes))) →
-      StepAt (now (start .args .bytes)) (start .args .t2 .arities) rules t (c .before .before .first-place .result)
+      NextAt (now (start .args .bytes)) (start .args .t2 .arities) rules t (c .before .before .first-place .result)
   step-at {t} k =
-      c .before .before .first-place .ensures t k .there (not-false (c .before .before .first-place .result .fit .table .fits) (c .if1 .left))
+      let found = c .before .before .first-place in
+      next-at k (found .ensures t k .there (not-false (found .result .fit .table .fits) (c .if1 .left)))
 
-  abbrev here : StepAt (now (start .args .bytes)) (start .args .t2 .arities) rules (start .pre .1 .0 .term) (c .before .before .first-place .result)
+  abbrev here : NextAt (now (start .args .bytes)) (start .args .t2 .arities) rules (start .pre .1 .0 .term) (c .before .before .first-place .result)
   here = step-at (start .pre .1 .0 .stands)
 
   small : c .before .before .first-place .result .fit .rule < 32
@@ -96,7 +98,7 @@ module _ (c : tie.After-right-length) where
 
   module _
       {t : Term} (k : At (now (start fitting .args .bytes)) (start fitting .args .t2 .arities) 0 t (length (now (start fitting .args .bytes)))) where
-    abbrev at-place : StepAt (now (start fitting .args .bytes)) (start fitting .args .t2 .arities) (rules fitting) t place
+    abbrev at-place : NextAt (now (start fitting .args .bytes)) (start fitting .args .t2 .arities) (rules fitting) t place
     at-place = step-at fitting k
 
     counted : c .right-length .result ≡ length (prefix (replace (under-match (stand fitting) at-place) (ruleOf (rules fitting) (place .fit .rule) .right)))

@@ -13,7 +13,7 @@ use Rattle.book.proofs.WasRead.{read-from, read-given, read-refused}
 use Rattle.steps.specs.Argument.{Part}
 use Rattle.steps.proofs.ArgumentAsked.{not-read, malformed, asked}
 use Rattle.rewriting.specs.Asked.{argumentMeaning}
-use Rattle.rewriting.proofs.Questions.{record-faulty, record-whole}
+use Rattle.steps.proofs.Questions.{record-faulty, record-whole}
 use Rattle.rewriting.proofs.asking.argument_reply.Statement.{statement}
 use Rattle.rewriting.proofs.asking.argument_reply.Tie as tie
 

@@ -13,7 +13,7 @@ use Rattle.book.specs.Record.{readRecord}
 use Rattle.book.specs.Meaning.{bookAt}
 use Rattle.book.proofs.RecordStands.{WholeTerm, whole-stands}
 use Rattle.steps.proofs.RanCleared.{malformed, short, runs}
-use Rattle.rewriting.proofs.Questions.{record-faulty, record-whole}
+use Rattle.steps.proofs.Questions.{record-faulty, record-whole}
 use Rattle.rewriting.proofs.RunsTo.{refused-run, runs-as}
 use Rattle.rewriting.proofs.running.run_cleared.Statement.{statement}
 use Rattle.rewriting.proofs.running.run_cleared.Tie as tie

@@ -10,7 +10,7 @@ use denote.Ref.{now}
 use lib.ListN.{length as long}
 use Rattle.term.specs.Term.{Term}
 use Rattle.book.specs.Book.{Rule}
-use Rattle.stepping.specs.Runnable.{rulesIn}
+use Rattle.matching.specs.Runnable.{rulesIn}
 use Rattle.rewriting.specs.Turns.{TermIn, Holding, Turned}
 use Rattle.stepping.specs.declared.Stepped.the-variants.{Made}
 use Rattle.rewriting.proofs.TakingTurns.{Onward, run-begins, steps-remain, run-goes, run-ends}

@@ -11,7 +11,7 @@ use lib.ListN.{length, replicate, set, length-set}
 use Rattle.term.specs.Term.{Term}
 use Rattle.term.specs.At.{At}
 use Rattle.term.specs.Copied.{copied, overlaid}
-use Rattle.stepping.specs.Runnable.{rulesIn}
+use Rattle.matching.specs.Runnable.{rulesIn}
 use Rattle.rewriting.specs.Turns.{held, TermIn, RunTo}
 use Rattle.rewriting.specs.declared.running.Reached.{Reached}
 use Rattle.rewriting.proofs.RecordRuns.{term-copied, record-run-in, from-one, from-other}

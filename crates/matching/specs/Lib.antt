@@ -1,0 +1,4 @@
+pub mod Alike
+pub mod Table
+pub mod Runnable
+pub mod FirstPlace
