@@ -1,89 +1,139 @@
 -- Demand 2 of the running code's `ranks_from_answer`: what the definition keeps to, every call that its contract allows keeps to.
 -- Assumes nothing.
-use Prim.Native.Nat.{ℕ, _≤_, _<_}
-use mathlib.Core.List.{List}
-use mathlib.Core.Path.{_≡_, sym, ap, _∙_}
-use lib.ListN.{length}
-use Rattle.reply.specs.Reply.{Reply, given, _>>=_}
+use Prim.Native.Nat.{ℕ, _<_}
+use mathlib.Core.List.{List, [], _∷_, _++_, head-eq-of-cons-eq, tail-eq-of-cons-eq}
+use mathlib.Core.Logic.{_↔_, Iff·trans}
+use mathlib.Core.Path.{_≡_, refl, sym, ap, ap₂, subst, _∙_}
+use native.Mathlib.Omega.{arith}
+use lib.ListN.{length, drop}
+use Rattle.reply.specs.Reply.{Refusal, Reply, given, refused, _>>=_, _at_}
 use Rattle.reply.specs.Lent.{laid}
-use Rattle.reply.proofs.Given.{bind-given}
+use Rattle.reply.proofs.Given.{given-not-refused, bind-given}
 use Rattle.reply.proofs.Every.{every-member}
 use Rattle.term.specs.Tables.{rankBits}
 use Rattle.book.specs.Book.{Book, symbols}
 use Rattle.book.specs.Reading.{readBook}
-use Rattle.clauses.specs.Cnf.{Assignment}
 use Rattle.clauses.specs.Blocks.{«V»}
-use Rattle.clauses.specs.File.{clauseProgram}
 use Rattle.answer.specs.Ranks.{ranksFromAnswer}
-use Rattle.printed_answer.specs.Printed.{Printed, printedAnswer}
-use Rattle.printed_answer.specs.Usual.{usual, usualAnswer}
 use Rattle.answer.proofs.Checked.{length-ranksOf}
+use Rattle.printed_answer.specs.Decided.{spelled, Decided}
+use Rattle.printed_answer.specs.Usual.{usualAnswer}
+use Rattle.printed_answer.proofs.Decided.{answers-decided}
 use Rattle.printed_answer.proofs.UsualBytes.{usual-bytes}
 use Rattle.demands.specs.EntryPoints.{Bytes, answer, bufferAfter, ranksOfAnAnswer}
-use Rattle.demands.specs.Demand2.{SatisfyingAssignment, rankBitsOf, SatisfiableExactlyIfCleared, Prints, PrintedAnswersAreAccepted}
+use Rattle.demands.specs.Demand2.{rankBitsOf, SatisfiableExactlyIfCleared, UsualAnswersAreAccepted}
 use Rattle.demands.specs.InCode.{InCode, AsDefined}
 use Rattle.demands.specs.AnswerInCode.{RanksLaid, AnswersInCode}
-use Rattle.demands.proofs.Demand2.{demand2, usual-prints, accepted-clear, ranks-precede}
+use Rattle.demands.proofs.Demand2.{demand2, ranks-precede}
 use Rattle.demands.proofs.Functions.{ranksFromAnswerInCode}
 use Rattle.demands.proofs.AsDefined.{ranks-from-answer-as-defined}
 
+-- The same decision, told by another reply that refuses alike and accepts the same ranks.
+module _
+    {A B : Type 0} (book : Book) (text : List ℕ) (room : ℕ) (reply : Reply A) (reply′ : Reply B) (Accepts Accepts′ : List ℕ → Type 0)
+    (refuse : (r : Refusal) → (reply′ ≡ refused r) ↔ (reply ≡ refused r)) (accept : (ranks : List ℕ) → Accepts′ ranks ↔ Accepts ranks)
+    (gives : (b : B) → reply′ ≡ given b → (a : A) × (reply ≡ given a))
+  where
+    some-refused : (number : ℕ) → ((p : ℕ) × (reply′ ≡ refused (number at p))) ↔ ((p : ℕ) × (reply ≡ refused (number at p)))
+    some-refused number = (
+      λ (p, e). (p, refuse (number at p) .0 e),
+      λ (p, e). (p, refuse (number at p) .1 e),
+    )
+
+    told-alike : Decided book text room reply Accepts → Decided book text room reply′ Accepts′
+    told-alike d = record {
+      tooLong = λ long. refuse (12 at 0) .1 (d .tooLong long);
+      malformed = λ short. Iff·trans (some-refused 13) (d .malformed short);
+      noModel = λ short. Iff·trans (refuse (14 at 0)) (d .noModel short);
+      noRoom = λ values answers short low. refuse (9 at 0) .1 (d .noRoom values answers short low);
+      decides = λ values answers short fits.
+          let so = d .decides values answers short fits in
+          record {
+            accepts = λ ranks. Iff·trans (accept ranks) (so .accepts ranks);
+            refusesAt = λ rule. Iff·trans (refuse (8 at rule)) (so .refusesAt rule);
+            refuses = Iff·trans (some-refused 8) (so .refuses);
+          };
+      onlyWellFormed = λ b e.
+          let (a, given-so) = gives b e in
+          let (values, answers, short, fits, accepted) = d .onlyWellFormed a given-so in
+          (values, answers, short, fits, accept (spelled book values) .1 accepted);
+    }
+
+-- Lists of one length that begin equal lists are equal.
+same-beginning : (l m s t : List ℕ) → length l ≡ length m → l ++ s ≡ m ++ t → l ≡ m
+same-beginning [] [] s t n e = refl
+same-beginning [] (b ∷ m) s t n e = absurd (omega arith)
+same-beginning (a ∷ l) [] s t n e = absurd (omega arith)
+same-beginning (a ∷ l) (b ∷ m) s t n e =
+    ap₂ (λ (c : ℕ) (k : List ℕ). c ∷ k) (head-eq-of-cons-eq e) (same-beginning l m s t (omega arith) (tail-eq-of-cons-eq e))
+
+counted-refused : (reply : Reply Bytes) (r : Refusal) → (_>>=_ reply (λ bs. given (length bs)) ≡ refused r) ↔ (reply ≡ refused r)
+unfolding _>>=_
+counted-refused (given bs) r = (λ e. absurd (given-not-refused (length bs) r e), λ e. absurd (given-not-refused bs r e))
+counted-refused (refused q) r = (λ e. let same : q ≡ r = cc e in ap (λ (x : Refusal). refused x) same, λ e. let same : q ≡ r = cc e in ap (λ (x : Refusal). refused x) same)
+
 module _ (code : InCode ranksOfAnAnswer) (as-defined : AsDefined code) where
   module _ (call : code .Call) (bytes text : Bytes) (room : ℕ) (asked : code .asked call ≡ (bytes, text, room)) where
-    -- Ranks that the definition gives: they are counted, and lie in the lent buffer.
-    module _ (ranks : List ℕ) (ranks-so : ranksFromAnswer bytes text room ≡ given ranks) where
-      counted-so : code .answered call ≡ given (length ranks)
-      unfolding answer _>>=_
-      counted-so =
-          as-defined .answers call ∙ ap (answer ranksOfAnAnswer) asked
-          ∙ ap (λ (x : Reply Bytes). _>>=_ x (λ bs. given (length bs))) ranks-so
-
-      laid-so : code .after call ≡ laid (given ranks) (code .before call)
-      unfolding bufferAfter _>>=_
-      laid-so =
-          as-defined .writes call ∙ ap (λ x. bufferAfter ranksOfAnAnswer x (code .before call)) asked
-          ∙ ap (λ (x : Reply Bytes). laid (_>>=_ x (λ bs. given bs)) (code .before call)) ranks-so
-
-    given-as :
-        (count : ℕ) → code .answered call ≡ given count → (ranks : List ℕ) × (ranksFromAnswer bytes text room ≡ given ranks) × (count ≡ length ranks)
+    answered-so : code .answered call ≡ _>>=_ (ranksFromAnswer bytes text room) (λ bs. given (length bs))
     unfolding answer
-    given-as count e =
-        let (ranks, ranks-so, counted) = bind-given _ _ _ (sym (as-defined .answers call ∙ ap (answer ranksOfAnAnswer) asked) ∙ e) in
-        (ranks, ranks-so, cc counted)
+    answered-so = as-defined .answers call ∙ ap (answer ranksOfAnAnswer) asked
 
-  ranks-laid :
-      (call : code .Call) (bytes text : Bytes) (room count : ℕ) (book : Book) → code .asked call ≡ (bytes, text, room) →
-      readBook bytes ≡ given book → code .answered call ≡ given count → RanksLaid book count (code .before call) (code .after call)
-  ranks-laid call bytes text room count book asked read e =
-      let (ranks, ranks-so, counted) = given-as call bytes text room asked count e in
-      let (many, clears) = accepted-clear bytes book text room ranks read ranks-so in
-      record { ranks = ranks; counted = counted; many = many; clears = clears; holds = laid-so call bytes text room asked ranks ranks-so }
+    -- Ranks that the definition gives: they are counted, and lie in the lent buffer.
+    laid-so : (ranks : List ℕ) → ranksFromAnswer bytes text room ≡ given ranks → RanksLaid code call ranks
+    laid-so ranks ranks-so = record {
+      counted = answered-so ∙ (unfold _>>=_ in ap (λ (x : Reply Bytes). _>>=_ x (λ bs. given (length bs))) ranks-so);
+      holds = holds-so;
+    }
+      where
+        holds-so : code .after call ≡ laid (given ranks) (code .before call)
+        holds-so =
+            unfold bufferAfter _>>=_ in
+            (as-defined .writes call ∙ ap (λ x. bufferAfter ranksOfAnAnswer x (code .before call)) asked
+            ∙ ap (λ (x : Reply Bytes). laid (_>>=_ x (λ bs. given bs)) (code .before call)) ranks-so)
 
-  printed-laid :
-      (call : code .Call) (bytes : Bytes) (room : ℕ) (book : Book) (α : Assignment) (answer : Printed) →
-      code .asked call ≡ (bytes, printedAnswer answer, room) → readBook bytes ≡ given book → SatisfyingAssignment (clauseProgram bytes) α →
-      Prints book answer α → symbols book ≤ room →
-      (code .answered call ≡ given (symbols book)) × (code .after call ≡ laid (given (rankBitsOf book α)) (code .before call))
-  unfolding PrintedAnswersAreAccepted rankBitsOf
-  printed-laid call bytes room book α answer asked read found prints fits =
-      let so = demand2 .printedAnswers bytes book α answer room read found fits prints in (
-        counted-so call bytes (printedAnswer answer) room asked (rankBitsOf book α) so
-            ∙ ap (λ (n : ℕ). given n) (length-ranksOf (symbols book) (rankBits (symbols book)) α),
-        laid-so call bytes (printedAnswer answer) room asked (rankBitsOf book α) so,
-      )
+    given-so : (count : ℕ) → code .answered call ≡ given count → (ranks : List ℕ) × (ranksFromAnswer bytes text room ≡ given ranks)
+    given-so count e =
+        let (ranks, ranks-so, counted) = bind-given _ _ _ (sym answered-so ∙ e) in
+        (ranks, ranks-so)
+
+    accepted-so : (ranks : List ℕ) → RanksLaid code call ranks → ranksFromAnswer bytes text room ≡ given ranks
+    accepted-so ranks l =
+        let (given-ranks, ranks-so) = given-so (length ranks) (l .counted) in
+        let there = laid-so given-ranks ranks-so in
+        let long : length given-ranks ≡ length ranks = cc (sym (there .counted) ∙ l .counted) in
+        let same : given-ranks ≡ ranks =
+        same-beginning given-ranks ranks _ _ long (beginning given-ranks (there .holds)) in
+        ranks-so ∙ ap (λ (rs : List ℕ). given rs) same
+      where
+        beginning :
+            (given-ranks : List ℕ) → code .after call ≡ laid (given given-ranks) (code .before call) →
+            given-ranks ++ drop (length given-ranks) (code .before call) ≡ ranks ++ drop (length ranks) (code .before call)
+        beginning given-ranks h = unfold laid in (sym h ∙ l .holds)
+
+    decided-so : (book : Book) → readBook bytes ≡ given book → Decided book text room (code .answered call) (RanksLaid code call)
+    decided-so book read =
+        told-alike book text room (ranksFromAnswer bytes text room) (code .answered call) (λ ranks. ranksFromAnswer bytes text room ≡ given ranks)
+        (RanksLaid code call)
+        (λ r. subst (λ (x : Reply ℕ). (x ≡ refused r) ↔ (ranksFromAnswer bytes text room ≡ refused r)) (sym answered-so) (counted-refused _ r))
+        (λ ranks. (accepted-so ranks, laid-so ranks))
+        given-so
+        (answers-decided bytes text room book read)
 
   answers : AnswersInCode code
-  unfolding SatisfiableExactlyIfCleared usualAnswer
+  unfolding SatisfiableExactlyIfCleared UsualAnswersAreAccepted rankBitsOf
   answers = record {
-    accepted = ranks-laid;
-    printed = printed-laid;
+    decided = λ call bytes text room book asked read. decided-so call bytes text room asked book read;
     onlyIfCleared = λ call bytes text room count book asked read e.
-        let laid-there = ranks-laid call bytes text room count book asked read e in
-        ranks-precede book (laid-there .ranks) (laid-there .clears);
+        let d = decided-so call bytes text room asked book read in
+        let (values, answers-so, short, fits, accepted) = d .onlyWellFormed count e in
+        ranks-precede book (spelled book values) (d .decides values answers-so short fits .accepts (spelled book values) .0 accepted .1);
     ifCleared = λ bytes book read p.
         let (α, found) = demand2 .satisfiable bytes book read .1 p in (
           usualAnswer («V» book) α,
           λ b m. every-member (λ n. n < 256) m (usual-bytes («V» book) α),
-          λ call room asked fits. printed-laid call bytes room book α (usual («V» book) α) asked read found (usual-prints bytes book α read) fits .0,
+          λ call room asked fits.
+              laid-so call bytes (usualAnswer («V» book) α) room asked (spelled book α) (demand2 .usualAnswers bytes book α room read found fits) .counted
+              ∙ ap (λ (n : ℕ). given n) (length-ranksOf (symbols book) (rankBits (symbols book)) α),
         );
   }
 

@@ -1,31 +1,29 @@
 -- Demand 2: the clause file, the rank check and a run mean what document 01 says. The file's bytes are read back to its clauses, which hold
 -- exactly if their equations do; those are the order's. Assumes nothing.
-use Prim.Native.Nat.{ℕ, _≤_, _<_, _^_}
-use mathlib.Core.List.{List, List·Memᴰ, flatten}
-use mathlib.Core.Option.{Option, some}
-use mathlib.Core.Path.{_≡_, sym, ap, ap₂, subst, _∙_}
+use Prim.Native.Nat.{ℕ, _<_, _^_}
+use mathlib.Core.List.{List, List·Memᴰ}
+use mathlib.Core.Option.{some}
+use mathlib.Core.Path.{_≡_, refl, sym, ap, ap₂, subst, _∙_}
 use native.Mathlib.Nat.{lt-of-lt-of-le}
 use lib.Dec.{T}
-use lib.ListN.{length}
 use Rattle.reply.specs.Reply.{given}
 use Rattle.reply.proofs.Every.{every-member}
 use Rattle.term.specs.Tables.{rankBits}
 use Rattle.term.proofs.Tables.{rank-bits-least}
 use Rattle.term.specs.Term.{Term}
-use Rattle.book.specs.Book.{Book, Rule, symbols}
+use Rattle.book.specs.Book.{Book, symbols}
 use Rattle.book.specs.Reading.{readBook}
 use Rattle.book.specs.Record.{readRecord}
 use Rattle.book.specs.Limits.{WithinLimits}
 use Rattle.book.proofs.Limits.{read-within-limits}
 use Rattle.book.proofs.ReadExactly.{book-read-exactly, record-read-exactly}
-use Rattle.order.specs.Precedence.{StrictPrecedence, Above}
-use Rattle.order.specs.Clearing.{Clears, ranksClear}
-use Rattle.order.proofs.Checked.{ranks-clear-exactly, accepted-exactly}
+use Rattle.order.specs.Precedence.{Above}
+use Rattle.order.specs.Clearing.{Clears}
+use Rattle.order.proofs.Checked.{accepted-exactly}
 use Rattle.order.proofs.RanksStrict.{ranks-strict}
 use Rattle.clauses.specs.Cnf.{Cnf, Assignment, Satisfies, allHold}
-use Rattle.clauses.specs.Numbering.{ranksOf}
-use Rattle.clauses.specs.Blocks.{blocks, «V»}
-use Rattle.clauses.specs.File.{clauseFile, fileBytes, clauseProgram}
+use Rattle.clauses.specs.Blocks.{«V»}
+use Rattle.clauses.specs.File.{clauseFile, clauseProgram}
 use Rattle.clauses.specs.Dimacs.{readDimacs}
 use Rattle.clauses.proofs.Equations.{Equations}
 use Rattle.clauses.proofs.Satisfied.{satisfied-exactly}
@@ -34,13 +32,13 @@ use Rattle.clauses.proofs.Assigned.{assigned, ranks-of-assigned}
 use Rattle.clauses.proofs.RanksExtend.{clearing-satisfies}
 use Rattle.clauses.proofs.ExtendsUniquely.{extends-uniquely}
 use Rattle.clauses.proofs.Dimacs.{file-reads-back, program-prints}
-use Rattle.answer.specs.Ranks.{ranksFromAnswer}
-use Rattle.printed_answer.specs.Usual.{usual, usualAnswer}
-use Rattle.answer.proofs.Checked.{answers-are-checked, length-ranksOf}
-use Rattle.printed_answer.proofs.PrintedRanks.{printed-ranks}
-use Rattle.printed_answer.proofs.Usual.{usual-tells, usual-short}
+use Rattle.printed_answer.specs.Usual.{usualAnswer}
+use Rattle.printed_answer.proofs.Taken.{well-formed-read}
+use Rattle.printed_answer.proofs.LinesBack.{read-well-formed}
+use Rattle.printed_answer.proofs.Decided.{answers-decided}
+use Rattle.printed_answer.proofs.Usual.{usual-well-formed, usual-short}
 use Rattle.printed_answer.proofs.UsualBytes.{usual-bytes}
-use Rattle.steps.specs.Run.{Ran, Yields, run, runFrom}
+use Rattle.steps.specs.Run.{Yields, run, runFrom}
 use Rattle.steps.proofs.OwnStep.{own-step-is-free}
 use Rattle.steps.proofs.Run.{run-yields, run-settled}
 use Rattle.demands.specs.EntryPoints.{Bytes}
@@ -55,8 +53,8 @@ use Rattle.demands.specs.Demand2.{
   ClearingRanksExtend,
   ExtendOnlyOnce,
   AcceptedExactlyIfDecreasing,
-  AnswersAreChecked,
-  Prints,
+  AnswersAreRead,
+  AnswersAreDecided,
   PrintedAnswersAreAccepted,
   UsualAnswersAreAccepted,
   AcceptedAnswer,
@@ -66,7 +64,7 @@ use Rattle.demands.specs.Demand2.{
   OwnStepIsFree,
   Demand2,
 }
-use Rattle.demands.proofs.Demand3.{clearing-ranks, Accepted, accepted}
+use Rattle.demands.proofs.Demand3.{clearing-ranks, accepted}
 
 -- A satisfying assignment of the file is one of the book's equations, and the other way round.
 equations-of :
@@ -132,36 +130,34 @@ satisfiable-exactly bytes book read = (cleared, assignment)
               (clearing-satisfies book limits ranks many (fit-the-bits book limits ranks below) clears),
         )
 
+answers-read : AnswersAreRead
+unfolding AnswersAreRead
+answers-read variables rankVariables text values = (
+  λ (literals, read, told). read-well-formed variables rankVariables text literals values read told,
+  well-formed-read variables rankVariables values text,
+)
+
+-- Ranks that clear are accepted, of a well-formed text that spells them.
 printed-accepted : PrintedAnswersAreAccepted
 unfolding PrintedAnswersAreAccepted rankBitsOf RankBitsClear
-printed-accepted bytes book α answer room read found fits prints =
-    let ranks : List ℕ = ranksOf (symbols book) (rankBits (symbols book)) α in
-    let clear : ranksClear book ranks ≡ given tt =
-    ranks-clear-exactly book ranks .1 (length-ranksOf (symbols book) (rankBits (symbols book)) α, rank-bits-clear bytes book α read found) in
-    printed-ranks book α room clear fits answer (prints .tells) (prints .short) bytes read
-
--- The usual form is one that is printed.
-pub usual-prints : (bytes : Bytes) (book : Book) (α : Assignment) → readBook bytes ≡ given book → Prints book (usual («V» book) α) α
-unfolding usualAnswer
-usual-prints bytes book α read = record { tells = usual-tells book α; short = usual-short book α (read-within-limits bytes book read) }
+printed-accepted bytes book α text room read found answers short fits =
+    answers-decided bytes text room book read .decides α answers short fits .accepts (rankBitsOf book α) .1 (refl, rank-bits-clear bytes book α read found)
 
 usual-accepted : UsualAnswersAreAccepted
-unfolding UsualAnswersAreAccepted PrintedAnswersAreAccepted usualAnswer
+unfolding UsualAnswersAreAccepted PrintedAnswersAreAccepted
 usual-accepted bytes book α room read found fits =
-    printed-accepted bytes book α (usual («V» book) α) room read found fits (usual-prints bytes book α read)
-
--- Ranks that are accepted clear the book.
-pub accepted-clear :
-    (bytes : Bytes) (book : Book) (text : Bytes) (room : ℕ) (ranks : List ℕ) → readBook bytes ≡ given book → ranksFromAnswer bytes text room ≡ given ranks →
-    (length ranks ≡ symbols book) × Clears (Above ranks) (book .rules)
-accepted-clear bytes book text room ranks read e = accepted-exactly bytes book ranks read .0 (answers-are-checked bytes text room ranks e)
+    printed-accepted bytes book α (usualAnswer («V» book) α) room read found (usual-well-formed book α)
+    (usual-short book α (read-within-limits bytes book read)) fits
 
 accepted-answer-exactly : AcceptedAnswerExactlyIfCleared
-unfolding AcceptedAnswerExactlyIfCleared SatisfiableExactlyIfCleared UsualAnswersAreAccepted
+unfolding AcceptedAnswerExactlyIfCleared SatisfiableExactlyIfCleared UsualAnswersAreAccepted rankBitsOf
 accepted-answer-exactly bytes book room read fits = (cleared, found)
   where
     cleared : AcceptedAnswer bytes room → SomePrecedenceClears book
-    cleared a = ranks-precede book (a .ranks) (accepted-clear bytes book (a .text) room (a .ranks) read (a .accepted) .1)
+    cleared a =
+        let decided = answers-decided bytes (a .text) room book read in
+        let (values, answers, short, room-there, accepted-so) = decided .onlyWellFormed (a .ranks) (a .accepted) in
+        ranks-precede book (rankBitsOf book values) (decided .decides values answers short room-there .accepts (rankBitsOf book values) .0 accepted-so .1)
 
     found : SomePrecedenceClears book → AcceptedAnswer bytes room
     found p =
@@ -187,7 +183,7 @@ unfolding YieldsOnce
 yields-once rules budget t ran ran′ y y′ = run-settled rules budget t ran y ∙ sym (run-settled rules budget t ran′ y′)
 
 pub demand2 : Demand2
-unfolding BooksAreRead RecordsAreRead AcceptedExactlyIfDecreasing AnswersAreChecked OwnStepIsFree
+unfolding BooksAreRead RecordsAreRead AcceptedExactlyIfDecreasing AnswersAreDecided OwnStepIsFree
 demand2 =
     record {
       books = book-read-exactly;
@@ -197,7 +193,8 @@ demand2 =
       ranksExtend = ranks-extend;
       onlyOnce = extend-only-once;
       accepted = accepted-exactly;
-      answers = answers-are-checked;
+      answersRead = answers-read;
+      answers = answers-decided;
       printedAnswers = printed-accepted;
       usualAnswers = usual-accepted;
       acceptedAnswer = accepted-answer-exactly;

@@ -1,8 +1,8 @@
 -- Demand 2: what the clause file, the rank check and a run mean.
-use Prim.Native.Nat.{ℕ, _*_, _<_, _≤_, _^_}
+use Prim.Native.Nat.{ℕ, _<_, _≤_, _^_}
 use mathlib.Core.List.{List, List·Memᴰ}
 use mathlib.Core.Logic.{_↔_}
-use mathlib.Core.Option.{Option, none, some}
+use mathlib.Core.Option.{none, some}
 use mathlib.Core.Path.{_≡_}
 use lib.Dec.{T}
 use lib.ListN.{length}
@@ -17,13 +17,15 @@ use Rattle.book.specs.Reading.{readBook}
 use Rattle.book.specs.Record.{readRecord}
 use Rattle.order.specs.Precedence.{StrictPrecedence, Above}
 use Rattle.order.specs.Clearing.{Clears, checkRanks}
-use Rattle.clauses.specs.Cnf.{Cnf, Assignment, Satisfies}
+use Rattle.clauses.specs.Cnf.{Cnf, Literal, Assignment, Satisfies}
 use Rattle.clauses.specs.Numbering.{ranksOf}
 use Rattle.clauses.specs.Blocks.{«V»}
 use Rattle.clauses.specs.File.{clauseProgram}
 use Rattle.clauses.specs.Dimacs.{readDimacs}
-use Rattle.answer.specs.Ranks.{ranksFromAnswer}
-use Rattle.printed_answer.specs.Printed.{Printed, printedAnswer, allLiterals, TellsRanks}
+use Rattle.answer.specs.Lines.{readAnswer}
+use Rattle.answer.specs.Ranks.{valued, ranksFromAnswer}
+use Rattle.printed_answer.specs.WellFormed.{WellFormed}
+use Rattle.printed_answer.specs.Decided.{Answers, Decided}
 use Rattle.printed_answer.specs.Usual.{usualAnswer}
 use Rattle.steps.specs.Step.{Step, stepOf}
 use Rattle.steps.specs.Run.{Ran, Yields, run}
@@ -88,24 +90,29 @@ AcceptedExactlyIfDecreasing =
     (bytes : Bytes) (book : Book) (ranks : List ℕ) → readBook bytes ≡ given book →
     (checkRanks bytes ranks ≡ given tt) ↔ ((length ranks ≡ symbols book) × Clears (Above ranks) (book .rules))
 
--- .. "whichever solver proposed them": an answer's ranks are accepted only if the rank check accepts them.
-unfoldable pub AnswersAreChecked : Type 0
-AnswersAreChecked =
-    (bytes text : Bytes) (room : ℕ) (ranks : List ℕ) → ranksFromAnswer bytes text room ≡ given ranks → checkRanks bytes ranks ≡ given tt
+-- .. "whichever solver proposed them". Of answers exactly the well-formed texts are read, each to the values of the rank variables that it
+-- names ..
+unfoldable pub AnswersAreRead : Type 0
+AnswersAreRead =
+    (variables rankVariables : ℕ) (text : Bytes) (values : Assignment) →
+    ((literals : List Literal)
+    × (readAnswer variables rankVariables text ≡ given literals)
+    × ((v : ℕ) → 1 ≤ v → v ≤ rankVariables → valued literals v ≡ values v))
+    ↔ WellFormed variables rankVariables text values
 
--- An answer that prints an assignment: its literals tell the rank variables as the assignment has them, and it is not too long for refusal
--- 12.
-pub record Prints (book : Book) (answer : Printed) (α : Assignment) : Type 0 where
-  pub tells : TellsRanks («V» book) (symbols book * rankBits (symbols book)) α (allLiterals answer)
-  pub short : length (printedAnswer answer) ≤ 65536
+-- .. and so what comes of any text is decided: of one that is well formed and says SATISFIABLE, by its ranks alone.
+unfoldable pub AnswersAreDecided : Type 0
+AnswersAreDecided =
+    (bytes text : Bytes) (room : ℕ) (book : Book) → readBook bytes ≡ given book →
+    Decided book text room (ranksFromAnswer bytes text room) (λ ranks. ranksFromAnswer bytes text room ≡ given ranks)
 
--- What a satisfying assignment of the clause file prints as s and v lines is accepted, whatever the order of its literals and lines and
--- whatever c lines stand between them, and its ranks are the rank bits. The lent buffer has a byte for each symbol.
+-- What a satisfying assignment of the clause file prints, in whatever well-formed way, is accepted, and its ranks are the rank bits. The lent
+-- buffer has a byte for each symbol.
 unfoldable pub PrintedAnswersAreAccepted : Type 0
 PrintedAnswersAreAccepted =
-    (bytes : Bytes) (book : Book) (α : Assignment) (answer : Printed) (room : ℕ) → readBook bytes ≡ given book →
-    SatisfyingAssignment (clauseProgram bytes) α → symbols book ≤ room → Prints book answer α →
-    ranksFromAnswer bytes (printedAnswer answer) room ≡ given (rankBitsOf book α)
+    (bytes : Bytes) (book : Book) (α : Assignment) (text : Bytes) (room : ℕ) → readBook bytes ≡ given book →
+    SatisfyingAssignment (clauseProgram bytes) α → Answers book text α → length text ≤ 65536 → symbols book ≤ room →
+    ranksFromAnswer bytes text room ≡ given (rankBitsOf book α)
 
 -- In the solvers' usual form, all literals in order on one line, it is never too long.
 unfoldable pub UsualAnswersAreAccepted : Type 0
@@ -151,7 +158,8 @@ pub record Demand2 : Type 1 where
   pub ranksExtend : ClearingRanksExtend
   pub onlyOnce : ExtendOnlyOnce
   pub accepted : AcceptedExactlyIfDecreasing
-  pub answers : AnswersAreChecked
+  pub answersRead : AnswersAreRead
+  pub answers : AnswersAreDecided
   pub printedAnswers : PrintedAnswersAreAccepted
   pub usualAnswers : UsualAnswersAreAccepted
   pub acceptedAnswer : AcceptedAnswerExactlyIfCleared

@@ -1,7 +1,13 @@
 pub mod Cases
-pub mod PrintedLines
-pub mod PrintedValues
-pub mod Printed
-pub mod PrintedRanks
+pub mod Spaces
+pub mod NumberBack
+pub mod LinesOfText
+pub mod LinesRead
+pub mod NamesRead
+pub mod Taken
+pub mod NamesBack
+pub mod LinesBack
+pub mod NoModel
+pub mod Decided
 pub mod Usual
 pub mod UsualBytes

@@ -1,5 +1,4 @@
--- The usual form is one of the forms that solvers print: its literals tell the assignment, and for a readable book it is never too long.
--- Assumes nothing.
+-- The usual form is well formed: its literals give each variable its value, and for a readable book it is never too long. Assumes nothing.
 use Prim.Native.Nat.{ℕ, zero, suc, _+_, _*_, _≤_, _<_}
 use mathlib.Core.Bool.{Bool, true, false, not}
 use mathlib.Core.List.{List, [], _∷_, _++_, map, flatMap, append-assoc, append-nil, List·Memᴰ, List·Memᴰ·head, List·Memᴰ·tail}
@@ -22,9 +21,11 @@ use Rattle.clauses.proofs.Bounds.{variables-at-most}
 use Rattle.clauses.proofs.Numbers.{base-grows}
 use Rattle.clauses.proofs.Numbered.{bits-before-rules}
 use Rattle.answer.specs.Values.{variableOf}
-use Rattle.printed_answer.specs.Printed.{spaced, lastText, printedLines, printedAnswer, allLiterals, timesNamed, TellsRanks}
-use Rattle.printed_answer.specs.Usual.{trueLiteral, usual, usualAnswer}
-use Rattle.printed_answer.proofs.PrintedValues.{named-here, named-elsewhere}
+use Rattle.printed_answer.specs.WellFormed.{spacedText, allEnded, allLiterals, timesNamed, Names, WellFormed}
+use Rattle.printed_answer.specs.Usual.{trueLiteral, singly, usual, usualAnswer}
+use Rattle.printed_answer.specs.Computing.{writing}
+use Rattle.printed_answer.proofs.NamesRead.{named-here, named-elsewhere}
+use Rattle.printed_answer.proofs.Taken.{literalsOf}
 
 module _ (α : Assignment) where
   own-variable : (v : ℕ) → variableOf (trueLiteral α v) ≡ v
@@ -97,12 +98,14 @@ module _ (α : Assignment) where
           here = unfold trueLiteral in rw (e, trueLiteral)
       go (no d) behind = List·Memᴰ·tail (behind (omega arith))
 
-  literals-tell : (variables rankVariables : ℕ) → rankVariables ≤ variables → TellsRanks variables rankVariables α (inOrder 1 variables)
-  literals-tell variables rankVariables h = record {
+  literals-name : (variables rankVariables : ℕ) → rankVariables ≤ variables → Names variables rankVariables α (inOrder 1 variables)
+  literals-name variables rankVariables h = record {
     within = λ l m. let f = fine l m in (f .above, omega (arith, f .below));
     once = λ v k. named-once v 1 variables;
-    holding = λ l m k. fine l m .true-there;
-    complete = λ v low (high : v ≤ rankVariables) e. true-there v 1 variables low (omega arith) e;
+    counts = λ v low (high : v ≤ rankVariables). (
+      λ e. true-there v 1 variables low (omega arith) e,
+      λ m. unfold holds in fine (is v) m .true-there,
+    );
   }
     where
       fine : (l : Literal) → List·Memᴰ l (inOrder 1 variables) → Fine 1 (1 + variables) l
@@ -114,42 +117,55 @@ unfolding «V»
 rank-variables-within book =
     le-trans (bits-before-rules (symbols book) (rankBits (symbols book))) (base-grows (firstBase (symbols book) (rankBits (symbols book))) (book .rules))
 
-pub usual-tells : (book : Book) (α : Assignment) → TellsRanks («V» book) (symbols book * rankBits (symbols book)) α (allLiterals (usual («V» book) α))
-unfolding allLiterals flatMap
-usual-tells book α = literals-tell α («V» book) (symbols book * rankBits (symbols book)) (rank-variables-within book)
+literals-of-singly : (ls : List Literal) → literalsOf (singly ls) ≡ ls
+literals-of-singly [] = refl
+literals-of-singly (l ∷ ls) = ap (λ (ms : List Literal). l ∷ ms) (literals-of-singly ls)
+
+pub usual-well-formed :
+    (book : Book) (α : Assignment) → WellFormed («V» book) (symbols book * rankBits (symbols book)) (usualAnswer («V» book) α) α
+unfolding usualAnswer allLiterals flatMap
+usual-well-formed book α = record {
+  answer = usual («V» book) α;
+  written = allEnded refl;
+  names = subst (Names («V» book) (symbols book * rankBits (symbols book)) α) (sym (literals-of-singly (map (trueLiteral α) (numbers 1 («V» book)))))
+      (literals-name α («V» book) (symbols book * rankBits (symbols book)) (rank-variables-within book));
+}
 
 -- Its length: a literal of a variable below 10,000 takes at most six bytes.
-literal-short : (α : Assignment) (v : ℕ) → v < 10000 → length (spaced (trueLiteral α v)) ≤ 6
-unfolding trueLiteral spaced ascii
+abbrev pub singleText : Literal → List ℕ
+singleText l = spacedText (record { more = 0; literal = l })
+
+literal-short : (α : Assignment) (v : ℕ) → v < 10000 → length (singleText (trueLiteral α v)) ≤ 6
+unfolding trueLiteral writing ascii
 literal-short α v h = go (α v)
   where
     four : length (decimal v) ≤ 4
     four = decimal-length v 4 (omega arith) h
 
-    go : (b : Bool) → length (spaced (elim b [ true ↦ is v | false ↦ isNot v ])) ≤ 6
+    go : (b : Bool) → length (singleText (elim b [ true ↦ is v | false ↦ isNot v ])) ≤ 6
     go true = omega (arith, four)
     go false = omega (arith, four)
 
 literals-short :
     (α : Assignment) (count first : ℕ) → first + count ≤ 10000 →
-    length (flatMap spaced (map (trueLiteral α) (numbers first count))) ≤ 6 * count
+    length (flatMap spacedText (singly (map (trueLiteral α) (numbers first count)))) ≤ 6 * count
 unfolding numbers flatMap
 literals-short α zero first h = omega arith
 literals-short α (suc count) first h =
-    rw (length-append (spaced (trueLiteral α first)) (flatMap spaced (map (trueLiteral α) (numbers (suc first) count))))
+    rw (length-append (singleText (trueLiteral α first)) (flatMap spacedText (singly (map (trueLiteral α) (numbers (suc first) count)))))
     (omega (arith, literal-short α first (omega arith), literals-short α count (suc first) (omega arith)))
 
 -- The text of its two lines.
 pub usual-text :
     (variables : ℕ) (α : Assignment) →
-    usualAnswer variables α ≡ ascii "s SATISFIABLE\nv" ++ (flatMap spaced (map (trueLiteral α) (numbers 1 variables)) ++ ascii " 0\n")
-unfolding usualAnswer printedAnswer printedLines lastText flatMap ascii
+    usualAnswer variables α ≡ ascii "s SATISFIABLE\nv" ++ (flatMap spacedText (singly (map (trueLiteral α) (numbers 1 variables))) ++ ascii " 0\n")
+unfolding usualAnswer writing flatMap ascii
 usual-text variables α =
     ap (λ (bs : List ℕ). ascii "s SATISFIABLE\nv" ++ bs)
-    (append-nil _ ∙ append-assoc (flatMap spaced (map (trueLiteral α) (numbers 1 variables))) (ascii " 0") (ascii "\n"))
+    (append-nil _ ∙ append-assoc (flatMap spacedText (singly (map (trueLiteral α) (numbers 1 variables)))) (ascii " 0") (ascii "\n"))
 
 pub usual-short : (book : Book) (α : Assignment) → WithinLimits book → length (usualAnswer («V» book) α) ≤ 65536
 unfolding ascii
 usual-short book α limits =
-    rw (usual-text («V» book) α, length-append (flatMap spaced (map (trueLiteral α) (numbers 1 («V» book)))) (32 ∷ 48 ∷ 10 ∷ []))
+    rw (usual-text («V» book) α, length-append (flatMap spacedText (singly (map (trueLiteral α) (numbers 1 («V» book))))) (32 ∷ 48 ∷ 10 ∷ []))
     (omega (arith, variables-at-most book limits, literals-short α («V» book) 1 (omega (arith, variables-at-most book limits))))

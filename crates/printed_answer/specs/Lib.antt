@@ -1,3 +1,5 @@
-pub mod Printed
+pub mod WellFormed
+pub mod NoModel
+pub mod Decided
 pub mod Usual
 pub mod Computing

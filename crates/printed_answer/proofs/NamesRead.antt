@@ -1,5 +1,5 @@
--- Literals that tell the rank variables of an assignment are read, word by word, to literals that give each rank variable its value: none
--- is named before, and what was read and what follows tell them together. Assumes nothing.
+-- Literals that name the rank variables as they may are read, word by word, to literals that give each rank variable its value: none is
+-- named before, and what was read and what follows name them together. Assumes nothing.
 use Prim.Native.Nat.{ℕ, suc, _+_, _≤_}
 use mathlib.Core.Bool.{Bool, true, false, _||_}
 use mathlib.Core.List.{List, [], _∷_, _++_, map, List·Memᴰ, List·Memᴰ·head, List·Memᴰ·tail, List·Memᴰ·not-nil}
@@ -10,13 +10,14 @@ use lib.Dec.{eqb}
 use borrow.Author.Tests.{eq-eqb, ne-eqb}
 use Rattle.reply.specs.Reply.{Refusal, given, _>>=_}
 use Rattle.reply.proofs.Every.{Every, every-of-members}
-use Rattle.clauses.specs.Cnf.{Literal, is, isNot, Assignment, holds}
+use Rattle.clauses.specs.Cnf.{Literal, is, isNot, Assignment}
 use Rattle.clauses.proofs.Items as Items
-use Rattle.clauses.proofs.Items.{Within, literalWord, item-literal}
+use Rattle.clauses.proofs.Items.{Within, item-literal}
 use Rattle.answer.specs.Values.{unclosed, variableOf, names, named, itemAfter, itemsAfter}
 use Rattle.answer.specs.Ranks.{valued}
-use Rattle.printed_answer.specs.Printed.{timesNamed, TellsRanks}
 use Rattle.answer.proofs.Naming.{once, other}
+use Rattle.printed_answer.specs.WellFormed.{literalText, timesNamed, Names}
+use Rattle.printed_answer.proofs.LinesRead.{literal-word}
 
 -- How often a literal's own variable, and another one, is named with it.
 pub named-here : (l : Literal) (v : ℕ) (ls : List Literal) → variableOf l ≡ v → timesNamed v (l ∷ ls) ≡ suc (timesNamed v ls)
@@ -27,7 +28,7 @@ pub named-elsewhere : (l : Literal) (v : ℕ) (ls : List Literal) → (variableO
 unfolding timesNamed
 named-elsewhere l v ls d = rw (timesNamed, ne-eqb (variableOf l) v d)
 
-not-named : (v : ℕ) (ls : List Literal) → timesNamed v ls ≡ 0 → names v ls ≡ false
+pub not-named : (v : ℕ) (ls : List Literal) → timesNamed v ls ≡ 0 → names v ls ≡ false
 unfolding names
 not-named v [] e = refl
 not-named v (l ∷ ls) e = go (ℕ-discrete (variableOf l) v) (not-named v ls)
@@ -37,12 +38,12 @@ not-named v (l ∷ ls) e = go (ℕ-discrete (variableOf l) v) (not-named v ls)
     go (no d) behind = rw (names, ne-eqb (variableOf l) v d) (behind (sym (named-elsewhere l v ls d) ∙ e))
 
 -- The value of a variable goes by its positive literal.
-valued-elsewhere : (l : Literal) (v : ℕ) (ls : List Literal) → (variableOf l ≡ v → ⊥) → valued (l ∷ ls) v ≡ valued ls v
+pub valued-elsewhere : (l : Literal) (v : ℕ) (ls : List Literal) → (variableOf l ≡ v → ⊥) → valued (l ∷ ls) v ≡ valued ls v
 unfolding valued variableOf
 valued-elsewhere (is u) v ls d = rw (ne-eqb u v d)
 valued-elsewhere (isNot u) v ls d = refl
 
-valued-moved : (l : Literal) (v : ℕ) (ls ms : List Literal) → (valued (l ∷ ls) v || valued ms v) ≡ (valued ls v || valued (l ∷ ms) v)
+pub valued-moved : (l : Literal) (v : ℕ) (ls ms : List Literal) → (valued (l ∷ ls) v || valued ms v) ≡ (valued ls v || valued (l ∷ ms) v)
 unfolding valued
 valued-moved (is u) v ls ms = go (eqb u v) (valued ls v)
   where
@@ -66,12 +67,12 @@ valued-first : (v : ℕ) (ls : List Literal) → valued (is v ∷ ls) v ≡ true
 unfolding valued
 valued-first v ls = rw (eq-eqb v v refl)
 
-member-valued : (v : ℕ) (ls : List Literal) → List·Memᴰ (is v) ls → valued ls v ≡ true
+pub member-valued : (v : ℕ) (ls : List Literal) → List·Memᴰ (is v) ls → valued ls v ≡ true
 member-valued v [] m = absurd (List·Memᴰ·not-nil m)
 member-valued v (l ∷ ls) (List·Memᴰ·head e) = subst (λ (m : Literal). valued (m ∷ ls) v ≡ true) e (valued-first v ls)
 member-valued v (l ∷ ls) (List·Memᴰ·tail m) = valued-behind l v ls (member-valued v ls m)
 
-valued-member : (v : ℕ) (ls : List Literal) → valued ls v ≡ true → List·Memᴰ (is v) ls
+pub valued-member : (v : ℕ) (ls : List Literal) → valued ls v ≡ true → List·Memᴰ (is v) ls
 unfolding valued
 valued-member v [] e = absurd (let z : _≡_ {A = ℕ} 0 1 = cc in omega arith)
 valued-member v (is u ∷ ls) e = go (ℕ-discrete u v) (valued-member v ls)
@@ -89,22 +90,22 @@ module _ (variables rankVariables : ℕ) (α : Assignment) where
     pub told : (v : ℕ) → 1 ≤ v → v ≤ rankVariables → (valued rest v || valued had v) ≡ α v
 
   -- Nothing was read yet.
-  pub none-yet : (ls : List Literal) → TellsRanks variables rankVariables α ls → Sofar [] ls
-  none-yet ls tells = record { within = every-of-members _ ls inside; once = few; told = value }
+  pub none-yet : (ls : List Literal) → Names variables rankVariables α ls → Sofar [] ls
+  none-yet ls names = record { within = every-of-members _ ls inside; once = few; told = value }
     where
       inside : (l : Literal) → List·Memᴰ l ls → Within variables (Items.variableOf l)
-      inside (is v) m = unfold variableOf in record { first = tells .within (is v) m .0; last = tells .within (is v) m .1 }
-      inside (isNot v) m = unfold variableOf in record { first = tells .within (isNot v) m .0; last = tells .within (isNot v) m .1 }
+      inside (is v) m = unfold variableOf in record { first = names .within (is v) m .0; last = names .within (is v) m .1 }
+      inside (isNot v) m = unfold variableOf in record { first = names .within (isNot v) m .0; last = names .within (isNot v) m .1 }
 
       few : (v : ℕ) → v ≤ rankVariables → timesNamed v [] + timesNamed v ls ≤ 1
-      few v h = unfold timesNamed in omega (arith, tells .once v h)
+      few v h = unfold timesNamed in omega (arith, names .once v h)
 
       value : (v : ℕ) → 1 ≤ v → v ≤ rankVariables → (valued ls v || valued [] v) ≡ α v
       value v low high = unfold valued in go (valued ls v) (α v) refl refl
         where
           go : (a b : Bool) → valued ls v ≡ a → α v ≡ b → (valued ls v || false) ≡ α v
-          go true b p q = rw p (sym (unfold holds variableOf in tells .holding (is v) (valued-member v ls p) high))
-          go false true p q = absurd (let z : _≡_ {A = ℕ} 0 1 = cc (member-valued v ls (tells .complete v low high q)) in omega arith)
+          go true b p q = rw p (sym (names .counts v low high .1 (valued-member v ls p)))
+          go false true p q = absurd (let z : _≡_ {A = ℕ} 0 1 = cc (member-valued v ls (names .counts v low high .0 q)) in omega arith)
           go false false p q = rw p (sym q)
 
   pub all-read : (had : List Literal) → Sofar had [] → (v : ℕ) → 1 ≤ v → v ≤ rankVariables → valued had v ≡ α v
@@ -153,15 +154,15 @@ module _ (variables rankVariables : ℕ) (α : Assignment) where
     next-read :
         (l : Literal) → Within variables (Items.variableOf l) → (had had′ : List Literal) → named fault rankVariables l had ≡ given (unclosed had′) →
         (ws : List (List ℕ)) →
-        itemsAfter fault variables rankVariables (unclosed had) (literalWord l ∷ ws) ≡ itemsAfter fault variables rankVariables (unclosed had′) ws
+        itemsAfter fault variables rankVariables (unclosed had) (literalText l ∷ ws) ≡ itemsAfter fault variables rankVariables (unclosed had′) ws
     unfolding itemsAfter itemAfter _>>=_
-    next-read l within had had′ e ws = rw (itemsAfter, item-literal variables l within, itemAfter, e)
+    next-read l within had had′ e ws = rw (literal-word l, itemsAfter, item-literal variables l within, itemAfter, e)
 
     -- The literals of a line, and whatever words follow.
     pub literals-read :
         (ls had rest : List Literal) → Sofar had (ls ++ rest) → (ws : List (List ℕ)) →
         (had′ : List Literal)
-        × (itemsAfter fault variables rankVariables (unclosed had) (map literalWord ls ++ ws) ≡ itemsAfter fault variables rankVariables (unclosed had′) ws)
+        × (itemsAfter fault variables rankVariables (unclosed had) (map literalText ls ++ ws) ≡ itemsAfter fault variables rankVariables (unclosed had′) ws)
         × Sofar had′ rest
     literals-read [] had rest sofar ws = (had, refl, sofar)
     literals-read (l ∷ ls) had rest sofar ws =
