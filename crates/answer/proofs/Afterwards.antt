@@ -12,9 +12,9 @@ use Rattle.reply.specs.Reply.{Reply, given, refused, unless, _>>_, _>>=_}
 use Rattle.reply.specs.Refusals.{numbered}
 use Rattle.reply.specs.declared.Refusal.{Refusal as Named}
 use Rattle.reply.specs.declared.Refusal.the-variants.{ShortBuffer, AnswerTooLong}
-use Rattle.reply.specs.Lent.{laid, lengthOf}
+use Rattle.reply.specs.Lent.{overlaid, laid, lengthOf}
 use Rattle.reply.proofs.Given.{given-bind}
-use Rattle.term.specs.Copied.{copied, overlaid}
+use Rattle.term.specs.Copied.{copied}
 use Rattle.term.specs.Tables.{rankBits}
 use Rattle.term.proofs.Copied.{copied-whole}
 use Rattle.term.proofs.Tables.{rank-bits-least}

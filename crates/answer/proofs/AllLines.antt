@@ -18,7 +18,7 @@ use Rattle.answer.specs.Marks.{tableOf}
 use Rattle.answer.specs.Progress.{HoldsSaid, Tells}
 use Rattle.answer.specs.declared.values.Stage.{Stage}
 use Rattle.answer.specs.declared.values.Stage.the-variants.{Silent, Closed, NoModel, Faulty}
-use Rattle.text.proofs.Pieces.{next-within, piece-at}
+use Rattle.words.proofs.Pieces.{next-within, piece-at}
 
 no-stage-is-faulty : (said : Said) (stage : Stage) (table : List ℕ) → HoldsSaid said stage table → stage ≡ Faulty → ⊥
 no-stage-is-faulty nothing stage table h e = let z : _≡_ {A = ℕ} 0 1 = cc in omega arith

@@ -16,7 +16,7 @@ use Rattle.answer.specs.Marks.{tableOf}
 use Rattle.answer.specs.Progress.{HoldsValues, HoldsSaid, Tells, wordAfter}
 use Rattle.answer.specs.declared.values.Stage.{Stage}
 use Rattle.answer.specs.declared.values.Stage.the-variants.{Open, Faulty}
-use Rattle.text.proofs.Pieces.{no-word-at, word-at}
+use Rattle.words.proofs.Pieces.{no-word-at, word-at}
 
 -- Values, as the lines say them.
 unfoldable said : Reply Values → Reply Said

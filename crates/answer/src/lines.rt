@@ -2,8 +2,8 @@
 use crate::values::Stage;
 use crate::values::items_after;
 use reply::Refusal;
-use text::reading::next;
-use text::reading::same;
+use words::next;
+use words::same;
 ghost use mathlib.Core.Path.{_≡_};
 ghost use mathlib.Core.List.{List};
 ghost use Prim.Native.Nat.{ℕ, _≤_};

@@ -1,7 +1,7 @@
 // The values of an answer: what its v lines name.
 use items::Item;
 use items::read_item;
-use text::reading::next;
+use words::next;
 ghost use mathlib.Core.Path.{_≡_};
 ghost use mathlib.Core.List.{List};
 ghost use Prim.Native.Nat.{_≤_};

@@ -12,7 +12,7 @@ use Rattle.reply.proofs.Given.{refused-not-given, bind-given, then-given, unles
 use Rattle.term.specs.Tables.{Kind, unknown, symbol, rule, symbolNode, variableNode, end, kindOf, bodyLength, bodyLengths}
 use Rattle.term.specs.Term.{Term}
 use Rattle.term.specs.Prefix.{Node, symbolic, variable, arityOf, prefix, tree}
-use Rattle.term.proofs.Prefix.{NodeOver, declared, standing, Leaves, leaves-next, nodeBytes, nodesBytes, TreeOf, tree-fills}
+use Rattle.term.proofs.Prefix.{NodeOver, declared, standing, Leaves, leaves-next, nodeBytes, nodesBytes, nodesBytes-append, TreeOf, tree-fills}
 use Rattle.book.specs.Book.{Book, Rule}
 use Rattle.book.specs.Bytes.{symbolsBytes, ruleBytes, rulesBytes, bookBytes}
 use Rattle.book.specs.Checks.{known, allowed, bodyFits, nothingMore}
@@ -20,7 +20,6 @@ use Rattle.book.specs.Sides.{sideOpen, noRuleYet, noSide}
 use Rattle.book.specs.Reading.{Stage, beforeRules, inLeft, inRight, ruleWhole, State, sideOf, leftAfter, rightAfter, nodeAt, next, recordAt, ended, readFrom, start, readBook}
 use Rattle.book.proofs.Tests.{Passed, passed}
 use Rattle.book.proofs.KindNumbers.{by-kind}
-use Rattle.book.proofs.ReadRecord.{nodesBytes-append}
 use Rattle.book.proofs.Limits.{Kept, StageKept, record-kept, start-kept}
 
 -- The bytes of one symbol more, and of one rule more.

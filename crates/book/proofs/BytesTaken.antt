@@ -28,7 +28,7 @@ use Rattle.book.specs.declared.sides.Side.{Side}
 use Rattle.book.specs.declared.sides.Stage.{Stage as SideStage}
 use Rattle.book.specs.declared.sides.Stage.the-variants.{BeforeRules, InLeft, InRight, RuleWhole}
 use Rattle.book.specs.Reading.{Stage, beforeRules, inLeft, inRight, ruleWhole, State, sideOf, leftAfter, rightAfter, nodeAt, next, recordAt, ended, readFrom, start, readBook}
-use Rattle.book.proofs.TreeBack.{own-arguments}
+use Rattle.term.proofs.TreeBack.{own-arguments}
 
 -- The nodes of a term in prefix order ..
 unfoldable mutual

@@ -1,16 +1,12 @@
--- Cases of reading, one for each refusal 1 to 6 and 11 and for the order of two in one record, computed. Assumes nothing.
-use Prim.Native.Nat.{ℕ}
+-- Cases of reading, one for each refusal 1 to 6 and for the order of two in one record, computed. Assumes nothing.
 use mathlib.Core.Path.{_≡_, refl}
-use mathlib.Core.List.{List, [], _∷_, _++_, flatten}
-use lib.ListN.{length, replicate}
-use Rattle.reply.specs.Reply.{Reply, Attempt, given, refused, toldAs, _at_}
-use Rattle.term.specs.Term.{Term, Args, var, app, nil, cons}
-use Rattle.book.specs.Book.{Book, Rule}
+use mathlib.Core.List.{[], _∷_, _++_}
+use lib.ListN.{replicate}
+use Rattle.reply.specs.Reply.{given, refused, toldAs, _at_}
+use Rattle.term.specs.Term.{var, app, nil, cons}
 use Rattle.book.specs.Reading.{readBook}
-use Rattle.book.specs.Record.{recordTerm, readRecord}
-use Rattle.book.specs.Examples.{fx-to-gx, adding, oneAndNone}
+use Rattle.book.specs.Examples.{fx-to-gx}
 use Rattle.book.specs.Computing.{computing}
-use Rattle.book.specs.declared.RecordFault.the-variants.{EndedEarly, WrongKind, NotDeclared, TooManyNodes, AfterTheTerm}
 
 reads-a-rule : readBook fx-to-gx ≡ given (record { arities = 1 ∷ 1 ∷ []; rules = record { left = app 0 (cons (var 0) nil); right = app 1 (cons (var 0) nil) } ∷ [] })
 unfolding computing
@@ -68,48 +64,3 @@ eleventh-node = refl
 bytes-after-the-end : readBook (5 ∷ 5 ∷ []) ≡ refused (6 at 1)
 unfolding computing
 bytes-after-the-end = refl
-
--- The faults of a record under the book of a(z,x) → x, and the one refusal that they all are.
-a-record : recordTerm (0 ∷ 1 ∷ 2 ∷ []) oneAndNone ≡ given (app 2 (cons (app 1 (cons (app 0 nil) nil)) (cons (app 0 nil) nil)))
-unfolding computing
-a-record = refl
-
-record-ended-early : recordTerm (0 ∷ 1 ∷ 2 ∷ []) (3 ∷ 1 ∷ 3 ∷ []) ≡ refused (EndedEarly 3)
-unfolding computing
-record-ended-early = refl
-
-record-without-its-end : recordTerm (0 ∷ 1 ∷ 2 ∷ []) (3 ∷ 0 ∷ []) ≡ refused (EndedEarly 2)
-unfolding computing
-record-without-its-end = refl
-
-a-variable-in-a-record : recordTerm (0 ∷ 1 ∷ 2 ∷ []) (3 ∷ 1 ∷ 4 ∷ 0 ∷ 5 ∷ []) ≡ refused (WrongKind 2)
-unfolding computing
-a-variable-in-a-record = refl
-
-symbol-not-declared : recordTerm (0 ∷ 1 ∷ 2 ∷ []) (3 ∷ 3 ∷ 5 ∷ []) ≡ refused (NotDeclared 1)
-unfolding computing
-symbol-not-declared = refl
-
--- s over s .. over z: 256 nodes are taken, the 257th is not.
-tower : (count : ℕ) → List ℕ
-tower count = flatten (replicate count (3 ∷ 1 ∷ [])) ++ (3 ∷ 0 ∷ 5 ∷ [])
-
-two-hundred-and-fifty-seven-nodes : recordTerm (0 ∷ 1 ∷ 2 ∷ []) (tower 256) ≡ refused (TooManyNodes 512)
-unfolding computing flatten tower
-two-hundred-and-fifty-seven-nodes = refl
-
-two-hundred-and-fifty-six-nodes : recordTerm (0 ∷ 1 ∷ 2 ∷ []) (tower 255 ++ (5 ∷ [])) ≡ refused (AfterTheTerm 513)
-unfolding computing flatten tower
-two-hundred-and-fifty-six-nodes = refl
-
-behind-the-term : recordTerm (0 ∷ 1 ∷ 2 ∷ []) (3 ∷ 0 ∷ 3 ∷ 0 ∷ 5 ∷ []) ≡ refused (AfterTheTerm 2)
-unfolding computing
-behind-the-term = refl
-
-behind-the-end : recordTerm (0 ∷ 1 ∷ 2 ∷ []) (3 ∷ 0 ∷ 5 ∷ 5 ∷ []) ≡ refused (AfterTheTerm 3)
-unfolding computing
-behind-the-end = refl
-
-any-fault-is-11-at-0 : readRecord (record { arities = 0 ∷ []; rules = [] }) (3 ∷ 0 ∷ 5 ∷ 5 ∷ []) ≡ refused (11 at 0)
-unfolding computing
-any-fault-is-11-at-0 = refl

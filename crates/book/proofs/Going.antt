@@ -10,10 +10,9 @@ use lib.ListN.{length, getD, set, replicate, length-set}
 use lib.Seq.{getD-set-same, getD-set-other}
 use Rattle.reply.specs.Reply.{given}
 use Rattle.term.specs.Tables.{Kind, kindOf, bodyLength, bodyLengths}
-use Rattle.term.specs.Prefix.{Node, symbolic, variable, arityOf}
+use Rattle.term.specs.Prefix.{Node, symbolic, variable, nodeOf, arityOf}
 use Rattle.book.specs.Checks.{bodyAt, known, allowed, bodyFits, roomLeft}
 use Rattle.book.specs.Entries.{nothingRead, withSymbol, withLeft, withRight, withRule}
-use Rattle.book.specs.Meaning.{nodeOf}
 use Rattle.book.specs.Placed.{Reader, readerAfter, nodeTaken, next, start}
 use Rattle.book.specs.Sides.{sideOpen, noSide, opened, whole, sideAfter, withNode}
 use Rattle.book.specs.declared.Book.{Book as PlacedBook}
@@ -22,7 +21,7 @@ use Rattle.book.specs.declared.sides.Stage.the-variants.{BeforeRules, In
 use Rattle.book.proofs.Bodies.{body-whole, body-byte}
 use Rattle.book.proofs.Tests.{Passed, passed}
 use Rattle.book.proofs.KindNumbers.{by-kind}
-use Rattle.book.proofs.Nodes.{symbol-node, variable-node}
+use Rattle.term.proofs.Nodes.{symbol-node, variable-node}
 use Rattle.book.proofs.Steps.{testsOf, behind, nextAt, Continues, at-start, taken-here}
 
 -- What the tables that are filled keep to.

@@ -9,11 +9,10 @@ use native.Mathlib.Omega.{arith}
 use lib.ListN.{length, getD, take, drop}
 use lib.Seq.{drop-cons, drop-drop, getD-drop, take-append-seam}
 use Rattle.term.specs.Term.{Term, size}
-use Rattle.term.specs.Prefix.{Node, symbolic, variable, arityOf, prefix, tree}
+use Rattle.term.specs.Prefix.{Node, symbolic, variable, nodeOf, arityOf, prefix, tree, nodesAt, treeAt}
 use Rattle.term.specs.At.{At}
 use Rattle.term.proofs.Prefix.{NodeOver, Leaves, noNode, leaves-next, nodeBytes, nodesBytes, TreeOf, tree-fills}
 use Rattle.term.proofs.PrefixAt.{prefix-at}
-use Rattle.book.specs.Meaning.{nodeOf, nodesAt, treeAt}
 
 -- No node is out of bounds here: what its variables may be is another law's.
 abbrev pub AnyVariable : ℕ → Type 0

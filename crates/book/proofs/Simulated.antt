@@ -9,7 +9,7 @@ use lib.ListN.{length, getD, drop, set, length-append}
 use lib.Seq.{getD-set-same, getD-take}
 use Rattle.term.specs.Tables.{Kind, unknown, symbol, rule, symbolNode, variableNode, end, kindOf, bodyLength, bodyLengths}
 use Rattle.term.specs.Term.{Term}
-use Rattle.term.specs.Prefix.{Node, symbolic, variable, arityOf, tree}
+use Rattle.term.specs.Prefix.{Node, symbolic, variable, arityOf, tree, treeAt}
 use Rattle.term.proofs.Prefix.{NodeOver, declared, standing, nodeBytes}
 use Rattle.book.specs.Book.{Rule}
 use Rattle.book.specs.Checks.{bodyAt, known, allowed, bodyFits, roomLeft}
@@ -19,7 +19,7 @@ use Rattle.book.specs.Reading as trees
 use Rattle.book.specs.Reading.{Stage, beforeRules, inLeft, inRight, ruleWhole, State, sideOf}
 use Rattle.book.specs.Placed as places
 use Rattle.book.specs.Placed.{Reader, readerAfter, nodeTaken}
-use Rattle.book.specs.Meaning.{treeAt, aritiesOf}
+use Rattle.book.specs.Meaning.{aritiesOf}
 use Rattle.book.specs.declared.Book.{Book as PlacedBook}
 use Rattle.book.specs.declared.sides.Side.{Side}
 use Rattle.book.specs.declared.sides.Stage.the-variants.{InLeft, InRight}

@@ -7,11 +7,12 @@ use native.Mathlib.Omega.{arith}
 use lib.ListN.{length, getD, length-append, List·getD-append}
 use lib.Seq.{getD-at}
 use Rattle.term.specs.Term.{Term}
+use Rattle.term.specs.Prefix.{treeAt}
 use Rattle.book.specs.Book.{Book, Rule, symbols}
-use Rattle.book.specs.Meaning.{treeAt, aritiesOf, ruleAt, rulesBefore}
+use Rattle.book.specs.Meaning.{aritiesOf, ruleAt, rulesBefore}
 use Rattle.book.specs.Standing.{SideStands, BookStands}
 use Rattle.book.specs.declared.Book.{Book as PlacedBook}
-use Rattle.book.proofs.MoreSymbols.{at-table}
+use Rattle.term.proofs.MoreSymbols.{at-table}
 use Rattle.book.proofs.SideBytes.{SideAt}
 use Rattle.book.proofs.Matched.{Matched}
 

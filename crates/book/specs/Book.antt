@@ -9,6 +9,7 @@ pub record Rule : Type 0 where
   pub left : Term
   pub right : Term
 
+-- "symbols and rules are numbered from 0": a number is a place in its list, so a symbol needs no more than its arity.
 pub record Book : Type 0 where
   pub arities : List ℕ
   pub rules : List Rule

@@ -6,9 +6,7 @@ use Rattle.book.specs.Checks.{known, allowed, bodyFits, bodyChecked, roo
 use Rattle.book.specs.Reading.{sideOf, leftAfter, rightAfter, nodeAt, next, recordAt, ended, readFrom, start, readBook}
 use Rattle.book.specs.Entries.{nothingRead, withSymbol, withLeft, withRight, withRule}
 use Rattle.book.specs.Placed as places
-use Rattle.book.specs.Meaning.{nodeOf, opensOf, nodesAt, treeAt, aritiesOf, ruleAt, rulesBefore, bookAt, told, meaning}
-use Rattle.book.specs.Record.{faultRefusal, refusalOf, recordNode, recordEnd, nodesFrom, oneTerm, recordTerm, readRecord}
-use Rattle.book.specs.RecordMeaning.{recordMeaning, recordVerdict, termFound, nodeFound, endFound}
+use Rattle.book.specs.Meaning.{opensOf, aritiesOf, ruleAt, rulesBefore, bookAt, told, meaning}
 use Rattle.book.specs.Examples.{
   fx-to-gx,
   example1,
@@ -23,7 +21,6 @@ use Rattle.book.specs.Examples.{
   onlyEnd,
   emptyBook,
   adding,
-  oneAndNone,
   forgetful,
 }
 
@@ -40,17 +37,13 @@ unfolding nothingRead withSymbol withLeft withRight withRule places.readerAfter 
 entries = tt
 
 unfoldable placing : Unit {0}
-unfolding places.placedFrom places.start places.answer places.placed nodeOf opensOf nodesAt treeAt aritiesOf ruleAt rulesBefore bookAt told meaning
+unfolding places.placedFrom places.start places.answer places.placed opensOf aritiesOf ruleAt rulesBefore bookAt told meaning
 placing = tt
 
-unfoldable records : Unit {0}
-unfolding faultRefusal refusalOf recordNode recordEnd nodesFrom oneTerm recordTerm readRecord recordMeaning recordVerdict termFound nodeFound endFound
-records = tt
-
 unfoldable examples : Unit {0}
-unfolding fx-to-gx example1 undoing divIE associative reversed fx-to-x fx-to-fx fx-to-y x-to-x onlyEnd emptyBook adding oneAndNone forgetful
+unfolding fx-to-gx example1 undoing divIE associative reversed fx-to-x fx-to-fx fx-to-y x-to-x onlyEnd emptyBook adding forgetful
 examples = tt
 
 unfoldable pub computing : Unit {0}
-unfolding Computing.computing reading trees entries placing records examples
+unfolding Computing.computing reading trees entries placing examples
 computing = tt

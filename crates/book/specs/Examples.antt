@@ -55,16 +55,13 @@ onlyEnd = 5 ∷ []
 unfoldable pub emptyBook : List ℕ
 emptyBook = []
 
--- z/0, s/1, a/2: a(z,x) → x, a(s(x),y) → s(a(x,y)); and the record a(s(z),z)
+-- z/0, s/1, a/2: a(z,x) → x, a(s(x),y) → s(a(x,y))
 unfoldable pub adding : List ℕ
 adding =
     1 ∷ 0 ∷ 1 ∷ 1 ∷ 1 ∷ 2
     ∷ 2 ∷ 3 ∷ 2 ∷ 3 ∷ 0 ∷ 4 ∷ 0 ∷ 4 ∷ 0
     ∷ 2 ∷ 3 ∷ 2 ∷ 3 ∷ 1 ∷ 4 ∷ 0 ∷ 4 ∷ 1 ∷ 3 ∷ 1 ∷ 3 ∷ 2 ∷ 4 ∷ 0 ∷ 4 ∷ 1
     ∷ 5 ∷ []
-
-unfoldable pub oneAndNone : List ℕ
-oneAndNone = 3 ∷ 2 ∷ 3 ∷ 1 ∷ 3 ∷ 0 ∷ 3 ∷ 0 ∷ 5 ∷ []
 
 -- f/2, g/1: f(g(x),y) → f(x,f(g(x),y)), which decreases only if the later arguments are forgotten
 unfoldable pub forgetful : List ℕ

@@ -5,8 +5,6 @@ pub mod Reading
 pub mod Entries
 pub mod Placed
 pub mod Meaning
-pub mod Record
-pub mod RecordMeaning
 pub mod Limits
 pub mod Bytes
 pub mod Standing

@@ -1,35 +1,21 @@
 -- What the answered struct of a read book means: a refusal's number and place, or the book whose trees stand at its places.
-use Prim.Native.Nat.{ℕ, zero, suc, _+_}
+use Prim.Native.Nat.{ℕ, zero, suc}
 use mathlib.Core.Bool.{true, false}
 use mathlib.Core.List.{List, [], _∷_, _++_}
 use lib.Dec.{eqb}
 use lib.ListN.{getD, take}
 use Rattle.reply.specs.Reply.{Reply, given, refused}
 use Rattle.reply.specs.Refusals.{numbered}
-use Rattle.term.specs.Term.{Term}
-use Rattle.term.specs.Prefix.{Node, symbolic, variable, tree}
+use Rattle.term.specs.Prefix.{treeAt}
 use Rattle.book.specs.Book.{Book, Rule}
 use Rattle.book.specs.declared.Book.{Book as PlacedBook}
 use Rattle.book.specs.declared.BookVerdict.{BookVerdict}
 use Rattle.book.specs.declared.BookVerdict.the-variants.{Readable, Refused}
 use Rattle.book.specs.declared.ReadBook.{ReadBook}
 
--- The node of two bytes: "3 symbol node, body the symbol number; 4 variable node, body the variable number".
-unfoldable pub nodeOf : (kind body : ℕ) → Node
-nodeOf k b = elim (eqb k 3) [ true ↦ symbolic b | false ↦ variable b ]
-
 -- How many subterms the node of a kind opens, its symbol having this arity.
 unfoldable pub opensOf : (kind arity : ℕ) → ℕ
 opensOf k arity = elim (eqb k 3) [ true ↦ arity | false ↦ 0 ]
-
--- So many nodes from place u on.
-unfoldable pub nodesAt : (bytes : List ℕ) (u many : ℕ) → List Node
-nodesAt bytes u zero = []
-nodesAt bytes u (suc many) = nodeOf (getD bytes u 0) (getD bytes (u + 1) 0) ∷ nodesAt bytes (u + 2) many
-
--- The tree of so many nodes from place u on.
-unfoldable pub treeAt : (bytes arities : List ℕ) (u many : ℕ) → Term
-treeAt bytes arities u many = tree arities (nodesAt bytes u many)
 
 -- The arities of the declared symbols.
 unfoldable pub aritiesOf : PlacedBook → List ℕ

@@ -25,6 +25,7 @@ pub data Stage : Type 0 where
   inRight : (left : Term) (missing : ℕ) (nodes : List Node) → Stage
   ruleWhole : Stage
 
+-- What came before the record that is next. A rule is among the rules only once it is whole; until then its sides are the stage's.
 pub record State : Type 0 where
   pub arities : List ℕ
   pub rules : List Rule

@@ -1,26 +1,21 @@
-// Reading books and records. The definitions stand in specs/.
+// Reading books. The definitions stand in specs/.
 mod checks;
-mod records;
 mod sides;
 
 use checks::Checked;
 use checks::check_record;
-use records::TermFound;
-use records::end_at;
-use records::read_term;
 use reply::Refusal;
 use sides::SideAfter;
 use sides::Stage;
 use sides::no_side;
 use sides::open_side;
 use sides::with_node;
+use text::wide;
 ghost use mathlib.Core.Path.{_≡_};
 ghost use Prim.Native.Nat.{_<_};
-ghost use lib.ListN.{getD, take};
+ghost use lib.ListN.{getD};
 ghost use Rattle.reply.specs.Reply.{refused};
 ghost use Rattle.book.specs.Reading.{readBook};
-ghost use Rattle.book.specs.Record.{faultRefusal, recordTerm};
-ghost use Rattle.book.specs.RecordMeaning.{recordMeaning, recordVerdict};
 ghost use Rattle.book.specs.Meaning.{opensOf, meaning};
 ghost use Rattle.book.specs.Entries.{nothingRead};
 ghost use Rattle.book.specs.Placed.{ended, answer, placed};
@@ -48,14 +43,6 @@ pub enum BookVerdict {
 pub struct ReadBook {
     pub verdict: BookVerdict,
     pub book: Book,
-}
-
-// A byte as a number.
-fn wide(x: u8) -> usize
-    ensures same { λ r. ⌜ r ≡ x ⌝ }
-    ensures small { λ r. ⌜ r < 256 ⌝ }
-{
-    x as usize
 }
 
 // The byte at this place, 0 past the end.
@@ -162,44 +149,4 @@ pub fn read_book(bytes: &[u8]) -> ReadBook
         }
     }
     refuse(Refusal::BookEnded(bytes.len()))
-}
-
-// What can be wrong with a record, each with the byte at which it is.
-pub enum RecordFault {
-    EndedEarly(usize),
-    WrongKind(usize),
-    NotDeclared(usize),
-    TooManyNodes(usize),
-    AfterTheTerm(usize),
-}
-
-// What reading a record finds: a whole term of so many nodes and then the end, or the first fault.
-pub enum RecordVerdict {
-    Whole(usize),
-    Faulty(RecordFault),
-}
-
-// The refusal of a record with this fault.
-pub fn record_refusal(fault: RecordFault) -> Refusal
-    ensures { λ r. ⌜ r ≡ faultRefusal fault ⌝ }
-{
-    match fault {
-        RecordFault::EndedEarly(_) => Refusal::BadRecord,
-        RecordFault::WrongKind(_) => Refusal::BadRecord,
-        RecordFault::NotDeclared(_) => Refusal::BadRecord,
-        RecordFault::TooManyNodes(_) => Refusal::BadRecord,
-        RecordFault::AfterTheTerm(_) => Refusal::BadRecord,
-    }
-}
-
-// Reads a record to be run: one term, then its end.
-pub fn read_record(bytes: &[u8], symbols: usize, arities: [u8; 16]) -> RecordVerdict
-    ensures settled { λ r. ⌜ r ≡ recordVerdict (recordTerm (take symbols arities) (now (bytes .entry))) ⌝ }
-    ensures means { λ r. ⌜ recordMeaning (now (bytes .entry)) (take symbols arities) r ≡ recordTerm (take symbols arities) (now (bytes .entry)) ⌝ }
-{
-    let found = read_term(bytes, symbols, arities);
-    match found {
-        TermFound::Faulty(fault) => RecordVerdict::Faulty(fault),
-        TermFound::Ends { nodes, behind } => end_at(bytes, behind, nodes),
-    }
 }

@@ -8,11 +8,12 @@ use native.Mathlib.Omega.{arith}
 use lib.ListN.{length, getD, take, drop, set, length-append, length-set, length-drop}
 use lib.Seq.{take-all, take-at, take-suc-set, length-take-le, drop-at, drop-drop, drop-append-le, drop-set-lt}
 use borrow.Rule.Slice.PartMut.{midOf, postOf, putMid, same-len-mid, mid-len, put-same}
+use Rattle.reply.specs.Lent.{overlaid}
 use Rattle.term.specs.Term.{Term}
 use Rattle.term.specs.Replacement.{Replacement, replace}
 use Rattle.term.specs.Prefix.{prefix}
 use Rattle.term.specs.At.{At}
-use Rattle.term.specs.Copied.{copied, overlaid}
+use Rattle.term.specs.Copied.{copied}
 use Rattle.term.proofs.At.{at-end}
 use Rattle.term.proofs.PrefixAt.{prefix-length, copied-prefix}
 use Rattle.term.proofs.Copied.{copied-whole}

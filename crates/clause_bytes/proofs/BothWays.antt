@@ -11,7 +11,7 @@ use Rattle.clauses.specs.File.{literalBytes, clauseBytes}
 use Rattle.clause_bytes.specs.Meaning.{partsIn, against, partClauses, bothWays}
 use Rattle.clause_bytes.specs.declared.parts.Parts.{Parts}
 use Rattle.clause_bytes.proofs.Laid.{clause-cons}
-use Rattle.clauses.proofs.Lists.{flatMap-append}
+use Rattle.text.proofs.Each.{flatMap-append}
 
 pub both-ways-text :
     (one other : Literal) (parts : List ℕ) →

@@ -1,27 +1,12 @@
 -- Laws of lists that the clause file's blocks are parted and numbered by. Assumes nothing.
 use Prim.Native.Nat.{ℕ, zero, suc, _+_, _<_}
-use mathlib.Core.List.{List, [], _∷_, _++_, map, flatMap, flatten, append-assoc, append-nil}
+use mathlib.Core.List.{List, [], _∷_, _++_, map, flatMap, flatten, append-assoc}
 use mathlib.Core.Path.{_≡_, refl, sym, ap, _∙_}
 use native.Mathlib.Numerals.{add-one}
 use native.Mathlib.Omega.{arith}
 use lib.ListN.{length, take, getD, length-append}
-use lib.Seq.{take-suc}
+use Rattle.text.proofs.Each.{flatMap-append}
 use Rattle.clauses.specs.Numbering.{numbers}
-
-module _ {A B : Type 0} (f : A → List B) where
-  pub flatMap-append : (l m : List A) → flatMap f (l ++ m) ≡ flatMap f l ++ flatMap f m
-  unfolding flatMap
-  flatMap-append [] m = refl
-  flatMap-append (x ∷ l) m = ap (λ (r : List B). f x ++ r) (flatMap-append l m) ∙ sym (append-assoc (f x) (flatMap f l) (flatMap f m))
-
-  -- One element more.
-  pub flatMap-next : (l : List A) (i : ℕ) (d : A) → i < length l → flatMap f (take (i + 1) l) ≡ flatMap f (take i l) ++ f (getD l i d)
-  unfolding flatMap
-  flatMap-next l i d h =
-      ap (λ (j : ℕ). flatMap f (take j l)) (add-one i)
-      ∙ ap (flatMap f) (take-suc l i d h)
-      ∙ flatMap-append (take i l) (getD l i d ∷ [])
-      ∙ ap (λ (r : List B). flatMap f (take i l) ++ r) (append-nil (f (getD l i d)))
 
 pub flatMap-map : {A B C : Type 0} (f : B → List C) (g : A → B) (l : List A) → flatMap f (map g l) ≡ flatMap (λ x. f (g x)) l
 unfolding flatMap

@@ -5,15 +5,14 @@ use mathlib.Core.Path.{_≡_, refl, ap, subst, _∙_}
 use lib.Dec.{leb→le}
 use Rattle.reply.specs.Reply.{given, _>>=_}
 use Rattle.reply.proofs.Given.{bind-given, then-given, unless-given}
-use Rattle.term.specs.Prefix.{recordBytes}
-use Rattle.book.specs.Record.{readRecord}
+use Rattle.record.specs.Record.{recordBytes, readRecord}
 use Rattle.book.proofs.Limits.{read-within-limits}
-use Rattle.book.proofs.ReadRecord.{record-read}
+use Rattle.record.proofs.ReadRecord.{record-read}
 use Rattle.order.proofs.Checked.{ranks-clear-exactly}
 use Rattle.order.proofs.PathOrder.{ranks-order}
 use Rattle.order.proofs.Among.{rules-go-down}
 use Rattle.steps.specs.Run.{Outcome, done, spent, tooLarge, Ran, runFrom, ranCleared, run}
-use Rattle.book.proofs.RecordBack.{record-back}
+use Rattle.record.proofs.RecordBack.{record-back}
 use Rattle.steps.proofs.Run.{after, budgets-add}
 use Rattle.steps.proofs.Run as Runs
 use Rattle.steps.proofs.StaysARecord.{Recordable, run-recordable}
@@ -32,17 +31,17 @@ had-room bytes ranks record′ budget room ran e =
 
 module _ (bytes ranks record′ : Bytes) (budget : ℕ) (ran : Ran) (its : Accepted bytes ranks record′ budget ran) where
   -- The record of the term that a run reached is read back to that term.
-  reached-back : readRecord (its .book) (recordBytes (ran .reached)) ≡ given (ran .reached)
+  reached-back : readRecord (its .book .arities) (recordBytes (ran .reached)) ≡ given (ran .reached)
   reached-back =
       let limits = read-within-limits bytes (its .book) (its .readable) in
-      let start = record-read (its .book) record′ (its .term) (its .recorded) in
+      let start = record-read (its .book .arities) record′ (its .term) (its .recorded) in
       let stays : Recordable (its .book .arities) (runFrom (its .book .rules) budget 0 (its .term) .reached) =
       run-recordable (ranks-order (its .book .arities) ranks) (its .book .rules)
       (rules-go-down limits (ranks-clear-exactly (its .book) ranks .0 (its .cleared) .1))
       budget 0 (its .term) (record { overSymbols = start .0; ground = start .1; few = start .2 })
       in
       let there : Recordable (its .book .arities) (ran .reached) = subst (λ (r : Ran). Recordable (its .book .arities) (r .reached)) (its .runs) stays in
-      record-back (its .book) (ran .reached) (there .overSymbols) (there .ground) (there .few)
+      record-back (its .book .arities) (ran .reached) (there .overSymbols) (there .ground) (there .few)
 
   -- So a run of that record goes on from there.
   pub goes-on : (more room : ℕ) → 513 ≤ room → run bytes ranks (recordBytes (ran .reached)) more room ≡ given (runFrom (its .book .rules) more 0 (ran .reached))

@@ -7,8 +7,8 @@ use lib.ListN.{length, take}
 use lib.Seq.{take-append-seam}
 use Rattle.reply.specs.Reply.{given}
 use Rattle.reply.specs.Lent.{laid}
-use Rattle.term.specs.Prefix.{recordBytes}
 use Rattle.book.specs.Book.{Rule}
+use Rattle.record.specs.Record.{recordBytes}
 use Rattle.steps.specs.Run.{Outcome, done, spent, tooLarge, Ran, runFrom, run}
 use Rattle.rewriting.specs.RunMeaning.{Told, toldOf}
 use Rattle.steps.proofs.Run.{after, carriedOn}

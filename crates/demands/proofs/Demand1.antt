@@ -14,9 +14,9 @@ use Rattle.term.specs.Term.{Term, Args, var, app, nil, cons, size}
 use Rattle.reply.proofs.Tests.{and-left, and-right}
 use Rattle.book.specs.Book.{Book, Rule}
 use Rattle.book.specs.Reading.{readBook}
-use Rattle.book.specs.Record.{faultRefusal, refusalOf, readRecord}
-use Rattle.book.specs.declared.RecordFault.{RecordFault}
-use Rattle.book.specs.declared.RecordFault.the-variants.{EndedEarly, WrongKind, NotDeclared, TooManyNodes, AfterTheTerm}
+use Rattle.record.specs.Record.{faultRefusal, refusalOf, readRecord}
+use Rattle.record.specs.declared.RecordFault.{RecordFault}
+use Rattle.record.specs.declared.RecordFault.the-variants.{EndedEarly, WrongKind, NotDeclared, TooManyNodes, AfterTheTerm}
 use Rattle.book.proofs.Refusals.{read-refuses}
 use Rattle.order.specs.Clearing.{allDecrease, ranksClear, checkRanks}
 use Rattle.clauses.specs.Cnf.{Literal}
@@ -151,7 +151,7 @@ unfolding toldAs
 told-only (given a) = result
 told-only (refused fault) = refusal (List·Memᴰ·head (fault-number fault))
 
-term-only : (book : Book) (bytes : Bytes) → Only (11 ∷ []) (readRecord book bytes)
+term-only : (book : Book) (bytes : Bytes) → Only (11 ∷ []) (readRecord (book .arities) bytes)
 unfolding readRecord
 term-only book bytes = told-only _
 

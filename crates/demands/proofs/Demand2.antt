@@ -13,10 +13,11 @@ use Rattle.term.proofs.Tables.{rank-bits-least}
 use Rattle.term.specs.Term.{Term}
 use Rattle.book.specs.Book.{Book, symbols}
 use Rattle.book.specs.Reading.{readBook}
-use Rattle.book.specs.Record.{readRecord}
+use Rattle.record.specs.Record.{readRecord}
 use Rattle.book.specs.Limits.{WithinLimits}
 use Rattle.book.proofs.Limits.{read-within-limits}
-use Rattle.book.proofs.ReadExactly.{book-read-exactly, record-read-exactly}
+use Rattle.book.proofs.ReadExactly.{book-read-exactly}
+use Rattle.record.proofs.ReadExactly.{record-read-exactly}
 use Rattle.order.specs.Precedence.{Above}
 use Rattle.order.specs.Clearing.{Clears}
 use Rattle.order.proofs.Checked.{accepted-exactly}
@@ -174,7 +175,7 @@ unfolding RunYields
 run-yields-its bytes ranks record′ budget room book t ran read recorded e =
     let a = accepted bytes ranks record′ budget room ran e in
     let same : a .book ≡ book = cc (a .readable) in
-    let itsTerm : a .term ≡ t = cc (sym (a .recorded) ∙ ap (λ b. readRecord b record′) same ∙ recorded) in
+    let itsTerm : a .term ≡ t = cc (sym (a .recorded) ∙ ap (λ b. readRecord (b .arities) record′) same ∙ recorded) in
     subst (Yields (book .rules) budget t)
     (ap₂ (λ (b : Book) (u : Term). runFrom (b .rules) budget 0 u) (sym same) (sym itsTerm) ∙ a .runs) (run-yields (book .rules) budget t)
 
@@ -187,7 +188,7 @@ unfolding BooksAreRead RecordsAreRead AcceptedExactlyIfDecreasing AnswersAreDeci
 demand2 =
     record {
       books = book-read-exactly;
-      records = record-read-exactly;
+      records = λ book. record-read-exactly (book .arities);
       satisfiable = satisfiable-exactly;
       rankBitsClear = rank-bits-clear;
       ranksExtend = ranks-extend;

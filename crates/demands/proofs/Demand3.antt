@@ -13,10 +13,9 @@ use Rattle.reply.proofs.Tests.{passed}
 use Rattle.reply.proofs.Given.{refused-not-given, bind-given, given-bind, then-given}
 use Rattle.book.specs.Book.{Book, symbols}
 use Rattle.book.specs.Reading.{readBook}
-use Rattle.book.specs.Record.{readRecord}
+use Rattle.record.specs.Record.{readRecord}
 use Rattle.book.specs.Limits.{WithinLimits}
 use Rattle.book.proofs.Limits.{read-within-limits}
-use Rattle.book.proofs.ReadRecord.{record-read}
 use Rattle.order.specs.Precedence.{StrictPrecedence, Above}
 use Rattle.order.specs.Clearing.{Clears, ranksClear}
 use Rattle.order.specs.Exceeds.{Exceeds}
@@ -112,7 +111,7 @@ pub record Accepted (bytes ranks record′ : Bytes) (budget : ℕ) (ran : Ran) :
   pub readable : readBook bytes ≡ given book
   pub cleared : ranksClear book ranks ≡ given tt
   pub term : Term
-  pub recorded : readRecord book record′ ≡ given term
+  pub recorded : readRecord (book .arities) record′ ≡ given term
   pub runs : runFrom (book .rules) budget 0 term ≡ ran
 
 pub accepted : (bytes ranks record′ : Bytes) (budget room : ℕ) (ran : Ran) → run bytes ranks record′ budget room ≡ given ran → Accepted bytes ranks record′ budget ran
@@ -127,7 +126,7 @@ accepted bytes ranks record′ budget room ran e =
 -- What a run is where nothing is refused.
 pub run-of :
     (bytes ranks record′ : Bytes) (budget room : ℕ) (book : Book) (t : Term) → readBook bytes ≡ given book → ranksClear book ranks ≡ given tt →
-    readRecord book record′ ≡ given t → 513 ≤ room → run bytes ranks record′ budget room ≡ given (runFrom (book .rules) budget 0 t)
+    readRecord (book .arities) record′ ≡ given t → 513 ≤ room → run bytes ranks record′ budget room ≡ given (runFrom (book .rules) budget 0 t)
 unfolding run
 run-of bytes ranks record′ budget room book t readable cleared recorded roomy =
     given-bind (readBook bytes) _ book readable ∙ then-run book ranks record′ budget room cleared recorded roomy
@@ -143,7 +142,7 @@ unfolding NeverSpent Bounds
 run-never-spent bytes ranks record′ budget room book t N ran read recorded bounds enough e =
     let a = accepted bytes ranks record′ budget room ran e in
     let same : a .book ≡ book = cc (a .readable) in
-    let itsTerm : a .term ≡ t = cc (sym (a .recorded) ∙ ap (λ b. readRecord b record′) same ∙ recorded) in
+    let itsTerm : a .term ≡ t = cc (sym (a .recorded) ∙ ap (λ b. readRecord (b .arities) record′) same ∙ recorded) in
     let runs : runFrom (book .rules) budget 0 t ≡ ran = ap₂ (λ (b : Book) (u : Term). runFrom (b .rules) budget 0 u) (sym same) (sym itsTerm) ∙ a .runs in
     not-spent (ran .outcome) (λ s. never-spent (book .rules) t N bounds budget enough (ap (λ (r : Ran). r .outcome) runs ∙ s))
 

@@ -7,10 +7,9 @@ use Rattle.reply.specs.Reply.{Reply, given, _>>=_}
 use Rattle.reply.specs.Lent.{laid}
 use Rattle.reply.proofs.Given.{bind-given}
 use Rattle.term.specs.Term.{Term}
-use Rattle.term.specs.Prefix.{recordBytes}
 use Rattle.book.specs.Book.{Book}
 use Rattle.book.specs.Reading.{readBook}
-use Rattle.book.specs.Record.{readRecord}
+use Rattle.record.specs.Record.{recordBytes, readRecord}
 use Rattle.steps.specs.Run.{done, tooLarge, Ran, run, ranBytes}
 use Rattle.rewriting.specs.RunMeaning.{Told, toldOf, runTold}
 use Rattle.demands.specs.EntryPoints.{Bytes, answer, bufferAfter, aRun}
@@ -50,7 +49,7 @@ module _ (code : InCode aRun) (as-defined : AsDefined code) where
         (ran, ran-so, cc tells)
 
     yielded :
-        (book : Book) (t : Term) → readBook bytes ≡ given book → readRecord book record′ ≡ given t →
+        (book : Book) (t : Term) → readBook bytes ≡ given book → readRecord (book .arities) record′ ≡ given t →
         (ran : Ran) → run bytes ranks record′ budget room ≡ given ran → Yielded book t budget (toldOf ran) (code .before call) (code .after call)
     unfolding toldOf RunYields
     yielded book t read recorded ran ran-so =

@@ -3,7 +3,7 @@ use Prim.Native.Nat.{ℕ, _+_, _≤_}
 use mathlib.Core.Path.{_≡_}
 use lib.ListN.{take}
 use Rattle.reply.specs.Reply.{Reply, given, _>>=_}
-use Rattle.term.specs.Prefix.{recordBytes}
+use Rattle.record.specs.Record.{recordBytes}
 use Rattle.steps.specs.Run.{done, spent, tooLarge, Ran, run}
 use Rattle.rewriting.specs.RunMeaning.{Told}
 use Rattle.demands.specs.EntryPoints.{Bytes, aRun}

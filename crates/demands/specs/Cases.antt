@@ -17,8 +17,8 @@ use Rattle.book.specs.Examples.{
   onlyEnd,
   emptyBook,
   adding,
-  oneAndNone,
 }
+use Rattle.record.specs.Examples.{oneAndNone}
 use Rattle.order.specs.Precedence.{above}
 use Rattle.steps.specs.Run.{done, spent}
 use Rattle.demands.specs.Claims.{Case, forAllRanks, forRanks, headed, prints, runs, clears, doesNotClear, gives}

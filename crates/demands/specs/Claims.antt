@@ -5,9 +5,9 @@ use mathlib.Core.List.{List, [], _∷_, map, flatMap}
 use lib.Dec.{eqb}
 use Rattle.reply.specs.Reply.{Refusal, Reply, Attempt, given, refused}
 use Rattle.text.specs.Text.{sameText}
-use Rattle.term.specs.Prefix.{recordBytes}
 use Rattle.book.specs.Book.{Book, symbols}
 use Rattle.book.specs.Reading.{readBook}
+use Rattle.record.specs.Record.{recordBytes}
 use Rattle.order.specs.Clearing.{checkRanks}
 use Rattle.clauses.specs.Numbering.{numbers}
 use Rattle.clauses.specs.File.{block, clauseProgram}

@@ -9,12 +9,11 @@ use lib.ListN.{length}
 use Rattle.reply.specs.Reply.{given}
 use Rattle.term.specs.Tables.{rankBits}
 use Rattle.term.specs.Term.{Term, size, over, variableFree}
-use Rattle.term.specs.Prefix.{recordBytes}
 use Rattle.book.specs.Book.{Book, Rule, symbols}
 use Rattle.book.specs.Bytes.{bookBytes}
 use Rattle.book.specs.Limits.{WithinLimits}
 use Rattle.book.specs.Reading.{readBook}
-use Rattle.book.specs.Record.{readRecord}
+use Rattle.record.specs.Record.{recordBytes, readRecord}
 use Rattle.order.specs.Precedence.{StrictPrecedence, Above}
 use Rattle.order.specs.Clearing.{Clears, checkRanks}
 use Rattle.clauses.specs.Cnf.{Cnf, Literal, Assignment, Satisfies}
@@ -39,7 +38,7 @@ BooksAreRead = (bytes : Bytes) (book : Book) → (readBook bytes ≡ given book)
 unfoldable pub RecordsAreRead : Type 0
 RecordsAreRead =
     (book : Book) (bytes : Bytes) (t : Term) →
-    (readRecord book bytes ≡ given t) ↔ (T (over (book .arities) t) × T (variableFree t) × (size t ≤ 256) × (bytes ≡ recordBytes t))
+    (readRecord (book .arities) bytes ≡ given t) ↔ (T (over (book .arities) t) × T (variableFree t) × (size t ≤ 256) × (bytes ≡ recordBytes t))
 
 -- A satisfying assignment of a file: of the clauses that a DIMACS reader finds in its bytes.
 pub record SatisfyingAssignment (file : Bytes) (α : Assignment) : Type 0 where
@@ -137,7 +136,7 @@ AcceptedAnswerExactlyIfCleared =
 unfoldable pub RunYields : Type 0
 RunYields =
     (bytes ranks record′ : Bytes) (budget room : ℕ) (book : Book) (t : Term) (ran : Ran) → readBook bytes ≡ given book →
-    readRecord book record′ ≡ given t → run bytes ranks record′ budget room ≡ given ran → Yields (book .rules) budget t ran
+    readRecord (book .arities) record′ ≡ given t → run bytes ranks record′ budget room ≡ given ran → Yields (book .rules) budget t ran
 
 -- .. and nothing but one outcome, one count and one term is yielded.
 unfoldable pub YieldsOnce : Type 0

@@ -8,7 +8,7 @@ use Rattle.reply.specs.Reply.{given}
 use Rattle.term.specs.Term.{Term, over, variableFree}
 use Rattle.book.specs.Book.{Book, Rule}
 use Rattle.book.specs.Reading.{readBook}
-use Rattle.book.specs.Record.{readRecord}
+use Rattle.record.specs.Record.{readRecord}
 use Rattle.order.specs.Clearing.{checkRanks}
 use Rattle.steps.specs.Step.{Steps}
 use Rattle.steps.specs.Run.{done, tooLarge, Ran, run}
@@ -32,14 +32,14 @@ ComesToRest =
 unfoldable pub NeverSpent : Type 0
 NeverSpent =
     (bytes ranks record′ : Bytes) (budget room : ℕ) (book : Book) (t : Term) (N : ℕ) (ran : Ran) → readBook bytes ≡ given book →
-    readRecord book record′ ≡ given t → Bounds (book .rules) t N → N ≤ budget → run bytes ranks record′ budget room ≡ given ran →
+    readRecord (book .arities) record′ ≡ given t → Bounds (book .rules) t N → N ≤ budget → run bytes ranks record′ budget room ≡ given ran →
     (ran .outcome ≡ done) ⊎ (ran .outcome ≡ tooLarge)
 
 -- And it isn't refused with ranks that are accepted, a well-formed record and a lent buffer of 513 bytes.
 unfoldable pub NotRefused : Type 0
 NotRefused =
     (bytes ranks record′ : Bytes) (budget room : ℕ) (book : Book) (t : Term) → readBook bytes ≡ given book → checkRanks bytes ranks ≡ given tt →
-    readRecord book record′ ≡ given t → 513 ≤ room → (ran : Ran) × (run bytes ranks record′ budget room ≡ given ran)
+    readRecord (book .arities) record′ ≡ given t → 513 ≤ room → (ran : Ran) × (run bytes ranks record′ budget room ≡ given ran)
 
 -- "cleared by some ranks": ranks that the rank check accepts give such an N.
 unfoldable pub AcceptedRanksRest : Type 0

@@ -4,9 +4,9 @@ use mathlib.Core.List.{List, [], _∷_}
 use lib.ListN.{length}
 use Rattle.reply.specs.Reply.{Reply, given, refused, _>>=_}
 use Rattle.reply.specs.Lent.{laid}
-use Rattle.term.specs.Prefix.{recordBytes}
 use Rattle.book.specs.Book.{Book}
 use Rattle.book.specs.Reading.{readBook}
+use Rattle.record.specs.Record.{recordBytes}
 use Rattle.order.specs.Clearing.{checkRanks}
 use Rattle.clauses.specs.File.{block}
 use Rattle.answer.specs.Ranks.{ranksFromAnswer}

@@ -6,10 +6,9 @@ use lib.ListN.{length}
 use Rattle.reply.specs.Reply.{given}
 use Rattle.reply.specs.Lent.{laid}
 use Rattle.term.specs.Term.{Term}
-use Rattle.term.specs.Prefix.{recordBytes}
 use Rattle.book.specs.Book.{Book}
 use Rattle.book.specs.Reading.{readBook}
-use Rattle.book.specs.Record.{readRecord}
+use Rattle.record.specs.Record.{recordBytes, readRecord}
 use Rattle.order.specs.Clearing.{checkRanks}
 use Rattle.steps.specs.Run.{done, tooLarge, Yields}
 use Rattle.rewriting.specs.RunMeaning.{Told}
@@ -28,7 +27,7 @@ pub record Yielded (book : Book) (t : Term) (budget : ℕ) (told : Told) (before
 unfoldable pub RunYieldsInCode : InCode aRun → Type 0
 RunYieldsInCode code =
     (call : code .Call) (bytes ranks record′ : Bytes) (budget room : ℕ) (book : Book) (t : Term) (told : Told) →
-    code .asked call ≡ (bytes, ranks, record′, budget, room) → readBook bytes ≡ given book → readRecord book record′ ≡ given t →
+    code .asked call ≡ (bytes, ranks, record′, budget, room) → readBook bytes ≡ given book → readRecord (book .arities) record′ ≡ given t →
     code .answered call ≡ given told → Yielded book t budget told (code .before call) (code .after call)
 
 -- "So a run that isn't refused, with a budget of N or more, never answers "budget spent": it ends where no rule fits, or stops because the
@@ -36,7 +35,7 @@ RunYieldsInCode code =
 unfoldable pub NeverSpentInCode : InCode aRun → Type 0
 NeverSpentInCode code =
     (call : code .Call) (bytes ranks record′ : Bytes) (budget room : ℕ) (book : Book) (t : Term) (N : ℕ) (told : Told) →
-    code .asked call ≡ (bytes, ranks, record′, budget, room) → readBook bytes ≡ given book → readRecord book record′ ≡ given t →
+    code .asked call ≡ (bytes, ranks, record′, budget, room) → readBook bytes ≡ given book → readRecord (book .arities) record′ ≡ given t →
     Bounds (book .rules) t N → N ≤ budget → code .answered call ≡ given told → (told .outcome ≡ done) ⊎ (told .outcome ≡ tooLarge)
 
 -- .. and with ranks that are accepted, a well-formed record and room for 513 bytes it isn't refused.
@@ -44,4 +43,4 @@ unfoldable pub NotRefusedInCode : InCode aRun → Type 0
 NotRefusedInCode code =
     (call : code .Call) (bytes ranks record′ : Bytes) (budget room : ℕ) (book : Book) (t : Term) →
     code .asked call ≡ (bytes, ranks, record′, budget, room) → readBook bytes ≡ given book → checkRanks bytes ranks ≡ given tt →
-    readRecord book record′ ≡ given t → 513 ≤ room → (told : Told) × (code .answered call ≡ given told)
+    readRecord (book .arities) record′ ≡ given t → 513 ≤ room → (told : Told) × (code .answered call ≡ given told)

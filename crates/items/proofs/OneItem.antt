@@ -14,7 +14,7 @@ use Rattle.text.specs.Decimal.{number, within}
 use Rattle.text.specs.Text.{ascii, sameText}
 use Rattle.clauses.specs.Cnf.{Literal, is, isNot}
 use Rattle.clauses.specs.Item.{Item, closing, literal, faulty, signed, literalOf, item}
-use Rattle.text.proofs.Numbers.{within-top, above-top}
+use Rattle.words.proofs.Numbers.{within-top, above-top}
 
 module _ (variables : ℕ) (sign : ℕ → Literal) where
   accepted : (w : ℕ) → 1 ≤ w → w ≤ variables → signed variables sign (some w) ≡ literal (sign w)

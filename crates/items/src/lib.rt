@@ -1,6 +1,6 @@
 // The items of an answer's v lines. The definitions stand in specs/.
-use text::reading::number_within;
-use text::reading::same;
+use words::number_within;
+use words::same;
 ghost use mathlib.Core.Path.{_≡_};
 ghost use Rattle.clauses.specs.Item.{item};
 ghost use Rattle.items.specs.Meaning.{itemMeaning};

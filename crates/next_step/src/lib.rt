@@ -1,9 +1,9 @@
 // The next step of a record before it is made: the rule that it takes, and the place. Who follows a run step by step asks for it.
 use book::Book;
 use book::BookVerdict;
-use book::RecordVerdict;
 use matching::first_place;
 use order::RanksVerdict;
+use record::RecordVerdict;
 use reply::Refusal;
 ghost use mathlib.Core.Path.{_≡_};
 ghost use Rattle.book.specs.Meaning.{bookAt};
@@ -26,9 +26,9 @@ fn of_record(book: &[u8], places: Book, record: &[u8]) -> NextStep
 {
     let symbols = places.symbols;
     let arities = places.arities;
-    let found = book::read_record(record, symbols, arities);
+    let found = record::read_record(record, symbols, arities);
     match found {
-        RecordVerdict::Faulty(fault) => NextStep::Refused(book::record_refusal(fault)),
+        RecordVerdict::Faulty(fault) => NextStep::Refused(record::record_refusal(fault)),
         RecordVerdict::Whole(nodes) => {
             let first = first_place(book, places, &record[..2 * nodes]);
             if !first.fit.table.fits {

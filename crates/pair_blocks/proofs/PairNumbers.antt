@@ -12,7 +12,7 @@ use Rattle.clauses.specs.Cnf.{is, isNot}
 use Rattle.clauses.specs.Blocks.{lowestBit, higherBit, pairClauses}
 use Rattle.clauses.specs.File.{clauseBytes}
 use Rattle.clauses.specs.Pairs.{Pair}
-use Rattle.clauses.proofs.Lists.{flatMap-append}
+use Rattle.text.proofs.Each.{flatMap-append}
 use Rattle.pair_blocks.specs.EachTwo.{eachTwo}
 
 -- A product of small numbers.

@@ -7,10 +7,12 @@ use native.Mathlib.Nat.{not-suc-le-zero, le-of-suc-le-suc}
 use lib.ListN.{length, getD}
 
 module _ {A : Type 0} where
+  -- The product: it computes along the list, so that a fact of every element of a given list is a tuple of facts.
   abbrev pub Every : (A → Type 0) → List A → Type 0
   Every P [] = Unit {0}
   Every P (x ∷ xs) = P x × Every P xs
 
+  -- Along append; under what one property implies, and of two at once.
   pub every-append : (P : A → Type 0) (l m : List A) → Every P l → Every P m → Every P (l ++ m)
   every-append P [] m h k = k
   every-append P (x ∷ xs) m h k = (h .0, every-append P xs m (h .1) k)
@@ -23,6 +25,7 @@ module _ {A : Type 0} where
   every-both P Q [] h k = tt
   every-both P Q (x ∷ xs) h k = ((h .0, k .0), every-both P Q xs (h .1) (k .1))
 
+  -- Of one element, by its number or as a member; and from all members.
   pub every-at : (P : A → Type 0) (l : List A) (i : ℕ) (d : A) → i < length l → Every P l → P (getD l i d)
   every-at P [] i d b h = absurd (not-suc-le-zero b)
   every-at P (x ∷ xs) zero d b h = h .0
@@ -36,6 +39,7 @@ module _ {A : Type 0} where
   every-of-members P [] f = tt
   every-of-members P (x ∷ xs) f = (f x (List·Memᴰ·head refl), every-of-members P xs (λ y m. f y (List·Memᴰ·tail m)))
 
+-- Along map, flatMap and flatten.
 module _ {A B : Type 0} where
   pub every-map :
       (P : A → Type 0) (Q : B → Type 0) (f : A → B) → ((x : A) → P x → Q (f x)) → (l : List A) → Every P l → Every Q (map f l)

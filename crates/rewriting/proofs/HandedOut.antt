@@ -8,11 +8,11 @@ use Rattle.reply.specs.Reply.{Reply, given, refused, _>>=_}
 use Rattle.reply.specs.declared.Refusal.{Refusal as Named}
 use Rattle.reply.proofs.Given.{bind-given}
 use Rattle.term.specs.Term.{Term, size}
-use Rattle.term.specs.Prefix.{prefix, recordBytes}
+use Rattle.term.specs.Prefix.{prefix}
 use Rattle.term.proofs.PrefixAt.{prefix-length}
 use Rattle.book.specs.Reading.{readBook}
-use Rattle.book.specs.Record.{readRecord}
-use Rattle.book.proofs.ReadRecord.{record-read}
+use Rattle.record.specs.Record.{recordBytes, readRecord}
+use Rattle.record.proofs.ReadRecord.{record-read}
 use Rattle.steps.specs.Argument.{Part, argumentOf, argument}
 use Rattle.rewriting.specs.Asked.{argumentMeaning, handedOut, partBytes}
 use Rattle.rewriting.specs.declared.asking.ArgumentReply.{ArgumentReply}
@@ -22,9 +22,9 @@ use Rattle.rewriting.proofs.ArgumentPart.{within-term}
 pub part-inside : (book text : List ℕ) (i : ℕ) (part : Part) → argument book text i ≡ given part → part .start + part .length ≤ length text
 unfolding argument recordBytes
 part-inside book text i part e =
-    let (b, read, e₁) = bind-given (readBook book) (λ b. _>>=_ (readRecord b text) (λ t. argumentOf t i)) part e in
-    let (t, its, e₂) = bind-given (readRecord b text) (λ t. argumentOf t i) part e₁ in
-    let long : length text ≡ length (prefix t) + 1 = ap length (record-read b text t its .3) ∙ length-append (prefix t) (5 ∷ []) in
+    let (b, read, e₁) = bind-given (readBook book) (λ b. _>>=_ (readRecord (b .arities) text) (λ t. argumentOf t i)) part e in
+    let (t, its, e₂) = bind-given (readRecord (b .arities) text) (λ t. argumentOf t i) part e₁ in
+    let long : length text ≡ length (prefix t) + 1 = ap length (record-read (b .arities) text t its .3) ∙ length-append (prefix t) (5 ∷ []) in
     omega (arith, within-term t i part e₂, long, prefix-length t)
 
 -- The part that was found, by its answer.

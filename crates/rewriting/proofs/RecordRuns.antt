@@ -9,15 +9,16 @@ use native.Mathlib.Omega.{arith}
 use lib.ListN.{length, getD, take, drop, set, replicate, length-append, length-replicate}
 use lib.Seq.{drop-cons, set-at, take-take, take-length, length-take-le}
 use Rattle.reply.specs.Reply.{Reply, given, _>>=_}
-use Rattle.reply.specs.Lent.{laid}
+use Rattle.reply.specs.Lent.{overlaid, laid}
 use Rattle.term.specs.Term.{Term, size}
-use Rattle.term.specs.Prefix.{prefix, recordBytes}
+use Rattle.term.specs.Prefix.{prefix}
 use Rattle.term.specs.At.{At}
-use Rattle.term.specs.Copied.{copied, overlaid}
+use Rattle.term.specs.Copied.{copied}
 use Rattle.term.proofs.At.{at-end, at-within}
 use Rattle.term.proofs.PrefixAt.{prefix-length, at-prefix, at-over, prefix-at}
 use Rattle.term.proofs.Copied.{copied-whole}
 use Rattle.book.specs.Book.{Rule}
+use Rattle.record.specs.Record.{recordBytes}
 use Rattle.steps.specs.Run.{Ran, runFrom, ranBytes}
 use Rattle.rewriting.specs.Turns.{held, TermIn, RunTo}
 use Rattle.stepping.specs.Stepped.{outcomeOf}

@@ -7,8 +7,8 @@ use Rattle.reply.specs.Reply.{Reply, given, refused, _>>=_}
 use Rattle.reply.specs.Refusals.{numbered}
 use Rattle.reply.specs.Lent.{laid}
 use Rattle.term.specs.Term.{Term}
-use Rattle.term.specs.Prefix.{recordBytes}
 use Rattle.term.specs.At.{At}
+use Rattle.record.specs.Record.{recordBytes}
 use Rattle.steps.specs.Run.{Outcome, Ran, ranBytes}
 use Rattle.stepping.specs.Stepped.{outcomeOf}
 use Rattle.rewriting.specs.declared.running.RunReply.{RunReply}

@@ -1,6 +1,6 @@
 // The argument question: one argument of a record's root, as a part of the caller's own record bytes.
 use book::BookVerdict;
-use book::RecordVerdict;
+use record::RecordVerdict;
 use reply::Refusal;
 ghost use mathlib.Core.Path.{_≡_};
 ghost use Prim.Native.Nat.{ℕ, _+_};
@@ -48,9 +48,9 @@ pub fn argument_reply(book: &[u8], record: &[u8], number: u64) -> ArgumentReply
     }
     let symbols = read.book.symbols;
     let arities = read.book.arities;
-    let found = book::read_record(record, symbols, arities);
+    let found = record::read_record(record, symbols, arities);
     if let RecordVerdict::Faulty(fault) = found {
-        return ArgumentReply::Refused(book::record_refusal(fault));
+        return ArgumentReply::Refused(record::record_refusal(fault));
     }
     argument_of(record, arities, number)
 }

@@ -1,8 +1,8 @@
 // The run: steps against a budget.
 use book::Book;
 use book::BookVerdict;
-use book::RecordVerdict;
 use order::RanksVerdict;
+use record::RecordVerdict;
 use reply::Refusal;
 pub use stepping::Outcome;
 use stepping::Stepped;
@@ -144,9 +144,9 @@ fn run_cleared(book: &[u8], places: Book, record: &[u8], budget: u64, out: &mut 
 {
     let symbols = places.symbols;
     let arities = places.arities;
-    let found = book::read_record(record, symbols, arities);
+    let found = record::read_record(record, symbols, arities);
     match found {
-        RecordVerdict::Faulty(fault) => RunReply::Refused(book::record_refusal(fault)),
+        RecordVerdict::Faulty(fault) => RunReply::Refused(record::record_refusal(fault)),
         RecordVerdict::Whole(nodes) => {
             if out.len() < 513 {
                 return RunReply::Refused(Refusal::ShortBuffer);

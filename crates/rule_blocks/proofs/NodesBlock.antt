@@ -12,7 +12,7 @@ use Rattle.clauses.specs.Blocks.{Setting, CAt, DAt, partsOfD, partsOfC, someIde
 use Rattle.clauses.specs.Wholes.{allParts, someParts}
 use Rattle.clauses.specs.File.{clauseBytes}
 use Rattle.rule_blocks.specs.Nodes.{nodesBlock}
-use Rattle.clauses.proofs.Lists.{flatMap-append}
+use Rattle.text.proofs.Each.{flatMap-append}
 
 all-parts-count : (whole : ℕ) (parts : List ℕ) → length (allParts whole parts) ≡ length parts + 1
 unfolding allParts

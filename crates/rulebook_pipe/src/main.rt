@@ -18,8 +18,8 @@ mod replies;
 
 use libc::STDIN_FILENO;
 use libc::STDOUT_FILENO;
-use text::reading::Number;
-use text::reading::grown;
+use words::Number;
+use words::grown;
 
 // The call's letter, 0 at the end of the input; the request's number, the lengths of its parts, and whether all of them were there.
 struct Header {

@@ -15,10 +15,9 @@ use Rattle.reply.specs.declared.Refusal.{Refusal as Named}
 use Rattle.reply.specs.Lent.{laid}
 use Rattle.reply.proofs.Given.{refused-not-given, given-not-refused}
 use Rattle.term.specs.Term.{Term, size}
-use Rattle.term.specs.Prefix.{recordBytes}
 use Rattle.book.specs.Book.{Book, Rule}
 use Rattle.book.specs.Reading.{readBook}
-use Rattle.book.specs.Record.{readRecord}
+use Rattle.record.specs.Record.{recordBytes, readRecord}
 use Rattle.order.specs.Clearing.{ranksClear}
 use Rattle.steps.specs.Step.{stepOf}
 use Rattle.steps.specs.Run.{Outcome, done, spent, tooLarge, Ran, runFrom, ranCleared, run, ranBytes}
@@ -81,7 +80,7 @@ unfolding run ranCleared
 refused-alike bytes ranks record′ a c room r =
     bind-alike r (readBook bytes) _ _ (λ b.
     then-alike r (ranksClear b ranks) (ranCleared b record′ a room) (ranCleared b record′ c room)
-    (bind-alike r (readRecord b record′) _ _ (λ t.
+    (bind-alike r (readRecord (b .arities) record′) _ _ (λ t.
     then-alike r (unless (leb 513 room) (9 at 0)) (given (runFrom (b .rules) a 0 t)) (given (runFrom (b .rules) c 0 t)) (λ h. absurd (given-not-refused _ r h)))))
 
 -- A refusal says nothing of steps.

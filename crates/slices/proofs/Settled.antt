@@ -9,7 +9,7 @@ use denote.Ref.{now}
 use denote.Triple.Clauses.{AtExit}
 use lib.ListN.{length, take}
 use Rattle.reply.specs.Reply.{given}
-use Rattle.term.specs.Prefix.{recordBytes}
+use Rattle.record.specs.Record.{recordBytes}
 use Rattle.steps.specs.Run.{Ran, run}
 use Rattle.rewriting.specs.RunMeaning.{runMeaning}
 use Rattle.rewriting.specs.declared.running.RunReply.{RunReply}

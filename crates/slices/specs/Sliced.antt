@@ -4,7 +4,7 @@ use mathlib.Core.List.{List}
 use mathlib.Core.Path.{_≡_}
 use lib.ListN.{length, take}
 use Rattle.reply.specs.Reply.{Reply, given, _>>=_}
-use Rattle.term.specs.Prefix.{recordBytes}
+use Rattle.record.specs.Record.{recordBytes}
 use Rattle.steps.specs.Run.{Ran}
 use Rattle.rewriting.specs.RunMeaning.{Told, runTold, runMeaning}
 use Rattle.rewriting.specs.declared.running.RunReply.{RunReply}

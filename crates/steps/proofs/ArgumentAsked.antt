@@ -6,7 +6,7 @@ use Rattle.reply.specs.Reply.{Refusal, refused, given, _>>=_}
 use Rattle.term.specs.Term.{Term}
 use Rattle.book.specs.Book.{Book}
 use Rattle.book.specs.Reading.{readBook}
-use Rattle.book.specs.Record.{readRecord}
+use Rattle.record.specs.Record.{readRecord}
 use Rattle.steps.specs.Argument.{argumentOf, argument}
 
 module _ (bytes text : List ℕ) (i : ℕ) where
@@ -15,10 +15,10 @@ module _ (bytes text : List ℕ) (i : ℕ) where
   not-read e = rw (e, _>>=_)
 
   module _ {book : Book} (read : readBook bytes ≡ given book) where
-    pub malformed : {r : Refusal} → readRecord book text ≡ refused r → argument bytes text i ≡ refused r
+    pub malformed : {r : Refusal} → readRecord (book .arities) text ≡ refused r → argument bytes text i ≡ refused r
     unfolding argument _>>=_
     malformed e = rw (read, _>>=_, e)
 
-    pub asked : {t : Term} → readRecord book text ≡ given t → argument bytes text i ≡ argumentOf t i
+    pub asked : {t : Term} → readRecord (book .arities) text ≡ given t → argument bytes text i ≡ argumentOf t i
     unfolding argument _>>=_
     asked e = rw (read, _>>=_, e)

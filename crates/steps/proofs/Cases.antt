@@ -7,7 +7,8 @@ use lib.ListN.{length, replicate}
 use Rattle.reply.specs.Reply.{Reply, Attempt, given, refused, _at_, _>>=_}
 use Rattle.reply.specs.Lent.{laid}
 use Rattle.term.specs.Term.{Term, Args, var, app, nil, cons, size}
-use Rattle.book.specs.Examples.{adding, oneAndNone}
+use Rattle.book.specs.Examples.{adding}
+use Rattle.record.specs.Examples.{oneAndNone}
 use Rattle.steps.specs.NextStep.{nextStep}
 use Rattle.steps.specs.Run.{Outcome, done, spent, tooLarge, Ran, run, ranBytes}
 use Rattle.steps.specs.Argument.{Part, argument}

@@ -6,16 +6,16 @@ use Rattle.reply.specs.Reply.{Refusal, refused, given, _>>_, _>>=_}
 use Rattle.term.specs.Term.{Term}
 use Rattle.book.specs.Book.{Book}
 use Rattle.book.specs.Reading.{readBook}
-use Rattle.book.specs.Record.{readRecord}
+use Rattle.record.specs.Record.{readRecord}
 use Rattle.order.specs.Clearing.{ranksClear}
 use Rattle.steps.specs.NextStep.{takenIn, nextCleared, nextStep}
 
 module _ (book : Book) (text : List ℕ) where
-  pub malformed : {r : Refusal} → readRecord book text ≡ refused r → nextCleared book text ≡ refused r
+  pub malformed : {r : Refusal} → readRecord (book .arities) text ≡ refused r → nextCleared book text ≡ refused r
   unfolding nextCleared _>>=_
   malformed e = rw (e, _>>=_)
 
-  pub found : {t : Term} → readRecord book text ≡ given t → nextCleared book text ≡ given (takenIn (book .rules) 0 t)
+  pub found : {t : Term} → readRecord (book .arities) text ≡ given t → nextCleared book text ≡ given (takenIn (book .rules) 0 t)
   unfolding nextCleared _>>=_
   found e = rw (e, _>>=_)
 

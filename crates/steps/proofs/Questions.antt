@@ -13,13 +13,13 @@ use Rattle.term.specs.Prefix.{prefix}
 use Rattle.term.specs.At.{At}
 use Rattle.term.proofs.At.{at-end}
 use Rattle.term.proofs.PrefixAt.{at-prefix, at-over, prefix-at}
-use Rattle.book.specs.Record.{faultRefusal, refusalOf, recordTerm, readRecord}
+use Rattle.record.specs.Record.{faultRefusal, refusalOf, recordTerm, readRecord}
 use Rattle.book.specs.Meaning.{aritiesOf, bookAt}
-use Rattle.book.specs.RecordMeaning.{recordMeaning}
+use Rattle.record.specs.Meaning.{recordMeaning}
 use Rattle.book.specs.declared.Book.{Book as Places}
-use Rattle.book.specs.declared.RecordFault.{RecordFault}
-use Rattle.book.specs.declared.RecordVerdict.{RecordVerdict}
-use Rattle.book.specs.declared.RecordVerdict.the-variants.{Faulty}
+use Rattle.record.specs.declared.RecordFault.{RecordFault}
+use Rattle.record.specs.declared.RecordVerdict.{RecordVerdict}
+use Rattle.record.specs.declared.RecordVerdict.the-variants.{Faulty}
 
 module _ (bytes : List ℕ) (places : Places) (text : List ℕ) where
   abbrev Declared : List ℕ
@@ -27,11 +27,11 @@ module _ (bytes : List ℕ) (places : Places) (text : List ℕ) where
 
   pub record-faulty :
       (verdict : RecordVerdict) (fault : RecordFault) → recordMeaning text Declared verdict ≡ recordTerm Declared text → verdict ≡ Faulty fault →
-      readRecord (bookAt bytes places) text ≡ refused (numbered (faultRefusal fault))
+      readRecord (bookAt bytes places .arities) text ≡ refused (numbered (faultRefusal fault))
   unfolding readRecord bookAt aritiesOf toldAs refusalOf recordMeaning
   record-faulty verdict fault means is = ap (toldAs refusalOf) (sym means ∙ ap (recordMeaning text Declared) is)
 
-  pub record-whole : (t : Term) → recordTerm Declared text ≡ given t → readRecord (bookAt bytes places) text ≡ given t
+  pub record-whole : (t : Term) → recordTerm Declared text ≡ given t → readRecord (bookAt bytes places .arities) text ≡ given t
   unfolding readRecord bookAt aritiesOf toldAs
   record-whole t is = ap (toldAs refusalOf) is
 

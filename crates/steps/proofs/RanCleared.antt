@@ -8,20 +8,20 @@ use Rattle.reply.specs.Reply.{Refusal, refused, given, unless, _>>_, _>>=_, _at
 use Rattle.term.specs.Term.{Term}
 use Rattle.book.specs.Book.{Book}
 use Rattle.book.specs.Reading.{readBook}
-use Rattle.book.specs.Record.{readRecord}
+use Rattle.record.specs.Record.{readRecord}
 use Rattle.order.specs.Clearing.{ranksClear}
 use Rattle.steps.specs.Run.{runFrom, ranCleared, run}
 
 module _ (book : Book) (text : List ℕ) (budget room : ℕ) where
-  pub malformed : {r : Refusal} → readRecord book text ≡ refused r → ranCleared book text budget room ≡ refused r
+  pub malformed : {r : Refusal} → readRecord (book .arities) text ≡ refused r → ranCleared book text budget room ≡ refused r
   unfolding ranCleared _>>=_
   malformed e = rw (e, _>>=_)
 
-  pub short : {t : Term} → readRecord book text ≡ given t → room < 513 → ranCleared book text budget room ≡ refused (9 at 0)
+  pub short : {t : Term} → readRecord (book .arities) text ≡ given t → room < 513 → ranCleared book text budget room ≡ refused (9 at 0)
   unfolding ranCleared _>>_ _>>=_ unless
   short e p = rw (e, _>>=_, lt-leb 513 room p, unless)
 
-  pub runs : {t : Term} → readRecord book text ≡ given t → 513 ≤ room → ranCleared book text budget room ≡ given (runFrom (book .rules) budget 0 t)
+  pub runs : {t : Term} → readRecord (book .arities) text ≡ given t → 513 ≤ room → ranCleared book text budget room ≡ given (runFrom (book .rules) budget 0 t)
   unfolding ranCleared _>>_ _>>=_ unless
   runs e p = rw (e, _>>=_, le-leb 513 room p, unless)
 
@@ -42,7 +42,7 @@ module _ (bytes ranks text : List ℕ) (budget room : ℕ) where
 
 -- A book that the ranks clear.
 pub then-run :
-    (book : Book) (ranks text : List ℕ) (budget room : ℕ) {t : Term} → ranksClear book ranks ≡ given tt → readRecord book text ≡ given t → 513 ≤ room →
+    (book : Book) (ranks text : List ℕ) (budget room : ℕ) {t : Term} → ranksClear book ranks ≡ given tt → readRecord (book .arities) text ≡ given t → 513 ≤ room →
     _>>_ (ranksClear book ranks) (ranCleared book text budget room) ≡ given (runFrom (book .rules) budget 0 t)
 unfolding _>>_
 then-run book ranks text budget room cleared e p = rw (cleared, _>>_) (runs book text budget room e p)

@@ -4,7 +4,7 @@ use mathlib.Core.List.{List}
 use Rattle.reply.specs.Reply.{Reply, given, refused, _>>=_, _at_}
 use Rattle.term.specs.Term.{Term, Args, var, app, nil, cons, size}
 use Rattle.book.specs.Reading.{readBook}
-use Rattle.book.specs.Record.{readRecord}
+use Rattle.record.specs.Record.{readRecord}
 
 -- "a part of the caller's own record bytes, without the end record": where it starts and how long it is.
 pub record Part : Type 0 where
@@ -26,5 +26,5 @@ argumentOf (app f ts) i = partOf 2 ts i
 unfoldable pub argument : (book record′ : List ℕ) (i : ℕ) → Reply Part
 argument book record′ i = do
   b ← readBook book
-  t ← readRecord b record′
+  t ← readRecord (b .arities) record′
   argumentOf t i

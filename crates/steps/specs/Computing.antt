@@ -1,5 +1,6 @@
 -- A key for computed cases: what opens it may compute with every definition of this crate and of those below.
 use mathlib.Core.Option.{orElse}
+use Rattle.record.specs.Computing as Record
 use Rattle.order.specs.Computing
 use Rattle.steps.specs.Fits.{Fits, standing, bound, matching, fits}
 use Rattle.steps.specs.Step.{chosen, applied, rewritten, stepOf}
@@ -8,5 +9,5 @@ use Rattle.steps.specs.Run.{runFrom, ranCleared, run, ranBytes}
 use Rattle.steps.specs.Argument.{partOf, argumentOf, argument}
 
 unfoldable pub computing : Unit {0}
-unfolding Computing.computing Fits standing bound matching fits chosen applied rewritten stepOf orElse lowest takenAt takenIn nextCleared nextStep runFrom ranCleared run ranBytes partOf argumentOf argument
+unfolding Record.computing Computing.computing Fits standing bound matching fits chosen applied rewritten stepOf orElse lowest takenAt takenIn nextCleared nextStep runFrom ranCleared run ranBytes partOf argumentOf argument
 computing = tt

@@ -7,7 +7,7 @@ use Rattle.reply.specs.Reply.{Reply, given, _>>_, _>>=_}
 use Rattle.term.specs.Term.{Term, Args, var, app, nil, cons, size}
 use Rattle.book.specs.Book.{Book, Rule}
 use Rattle.book.specs.Reading.{readBook}
-use Rattle.book.specs.Record.{readRecord}
+use Rattle.record.specs.Record.{readRecord}
 use Rattle.order.specs.Clearing.{ranksClear}
 use Rattle.steps.specs.Fits.{fits}
 
@@ -38,7 +38,7 @@ unfoldable mutual
 -- The next step of a record under a cleared book; none where no rule fits.
 unfoldable pub nextCleared : Book → (record′ : List ℕ) → Reply (Option Taken)
 nextCleared book record′ = do
-  t ← readRecord book record′
+  t ← readRecord (book .arities) record′
   given (takenIn (book .rules) 0 t)
 
 -- The ranks are checked and refusals are given as in the run, which has a budget and a lent buffer besides: "7, 8, 11".

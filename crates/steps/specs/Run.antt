@@ -7,10 +7,9 @@ use mathlib.Core.Path.{_≡_}
 use lib.Dec.{leb}
 use Rattle.reply.specs.Reply.{Reply, given, refused, unless, _>>_, _>>=_, _at_}
 use Rattle.term.specs.Term.{Term, size}
-use Rattle.term.specs.Prefix.{recordBytes}
 use Rattle.book.specs.Book.{Book, Rule}
 use Rattle.book.specs.Reading.{readBook}
-use Rattle.book.specs.Record.{readRecord}
+use Rattle.record.specs.Record.{recordBytes, readRecord}
 use Rattle.order.specs.Clearing.{ranksClear}
 use Rattle.steps.specs.Step.{stepOf, OwnSteps}
 
@@ -59,7 +58,7 @@ pub record Yields (rules : List Rule) (budget : ℕ) (t : Term) (ran : Ran) : Ty
 -- before.
 unfoldable pub ranCleared : Book → (record′ : List ℕ) (budget room : ℕ) → Reply Ran
 ranCleared book record′ budget room = do
-  t ← readRecord book record′
+  t ← readRecord (book .arities) record′
   unless (leb 513 room) (9 at 0)
   given (runFrom (book .rules) budget 0 t)
 

@@ -4,7 +4,7 @@ use mathlib.Core.Path.{_≡_, refl}
 use mathlib.Core.List.{List, [], _∷_, map}
 use Rattle.term.specs.Tables.{bodyLength}
 use Rattle.term.specs.Term.{Term, Args, var, app, nil, cons}
-use Rattle.term.specs.Prefix.{Node, symbolic, variable, recordBytes, tree}
+use Rattle.term.specs.Prefix.{Node, symbolic, variable, prefix, tree}
 use Rattle.term.specs.Computing.{computing}
 
 body-lengths : map bodyLength (1 ∷ 2 ∷ 3 ∷ 4 ∷ 5 ∷ 6 ∷ 255 ∷ []) ≡ 1 ∷ 0 ∷ 1 ∷ 1 ∷ 0 ∷ 0 ∷ 0 ∷ []
@@ -16,6 +16,6 @@ nodes-to-a-tree : tree (3 ∷ 1 ∷ []) (symbolic 0 ∷ variable 1 ∷ symbolic 
 unfolding computing
 nodes-to-a-tree = refl
 
-a-tree-to-bytes : recordBytes (app 0 (cons (var 1) (cons (app 1 (cons (var 0) nil)) nil))) ≡ 3 ∷ 0 ∷ 4 ∷ 1 ∷ 3 ∷ 1 ∷ 4 ∷ 0 ∷ 5 ∷ []
+a-tree-to-bytes : prefix (app 0 (cons (var 1) (cons (app 1 (cons (var 0) nil)) nil))) ≡ 3 ∷ 0 ∷ 4 ∷ 1 ∷ 3 ∷ 1 ∷ 4 ∷ 0 ∷ []
 unfolding computing
 a-tree-to-bytes = refl

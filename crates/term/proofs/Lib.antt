@@ -1,9 +1,12 @@
 pub mod Cases
 pub mod Same
+pub mod Nodes
 pub mod Prefix
 pub mod Tables
 pub mod At
+pub mod MoreSymbols
 pub mod SameAt
 pub mod Copied
 pub mod PrefixAt
+pub mod TreeBack
 pub mod Settled

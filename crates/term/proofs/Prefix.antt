@@ -35,6 +35,11 @@ unfoldable pub nodesBytes : List Node → List ℕ
 nodesBytes [] = []
 nodesBytes (this ∷ nodes) = nodeBytes this ++ nodesBytes nodes
 
+pub nodesBytes-append : (nodes more : List Node) → nodesBytes (nodes ++ more) ≡ nodesBytes nodes ++ nodesBytes more
+unfolding nodesBytes
+nodesBytes-append [] more = refl
+nodesBytes-append (this ∷ nodes) more = rw (nodesBytes-append nodes more, append-assoc)
+
 -- What the trees of nodes are.
 pub record TreesOf (arities : List ℕ) (missing : ℕ) (nodes : List Node) (ts : List Term) : Type 0 where
   pub number : length ts ≡ missing

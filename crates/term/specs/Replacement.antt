@@ -2,7 +2,8 @@
 use Prim.Native.Nat.{ℕ}
 use Rattle.term.specs.Term.{Term, Args, var, app, nil, cons}
 
--- The variable x occurs in a term.
+-- The variable x occurs in a term: it is the term, or it occurs in one of the arguments, the first or a later one. A place in the tree
+-- and not a list of variables, so that what holds of every occurrence is shown along the tree.
 mutual
   pub data Occurs (x : ℕ) : Term → Type 0 where
     it : Occurs x (var x)

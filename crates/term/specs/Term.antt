@@ -5,6 +5,7 @@ use mathlib.Core.List.{List, [], _∷_}
 use lib.Dec.{eqb, ltb}
 use lib.ListN.{length, getD}
 
+-- Argument lists are a type of their own, beside lists: a constructor that holds a list of terms would have the type inside another.
 mutual
   pub data Term : Type 0 where
     var : ℕ → Term

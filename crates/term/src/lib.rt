@@ -1,24 +1,20 @@
 // Terms as places in bytes. The definitions stand in specs/.
+use text::wide;
+use text::writing::write_text;
 ghost use mathlib.Core.Path.{_≡_};
-ghost use Prim.Native.Nat.{ℕ, _-_, min};
+ghost use Prim.Native.Nat.{ℕ};
 ghost use lib.ListN.{length};
+ghost use Rattle.reply.specs.Lent.{overlaid};
 ghost use Rattle.term.specs.Tables.{bodyLength, rankBits};
 ghost use Rattle.term.specs.Term.{Term, count, same};
 ghost use Rattle.term.specs.Root.{arguments};
 ghost use Rattle.term.specs.At.{At, Standing};
-ghost use Rattle.term.specs.Copied.{copied, overlaid};
+ghost use Rattle.term.specs.Copied.{copied};
 
 // "Constant tables give body length per kind and rank bits for each symbol count."
 const BODY_LENGTHS: [u8; 6] = [0, 1, 0, 1, 1, 0];
 
 const RANK_BITS: [u8; 17] = [0, 0, 1, 2, 2, 3, 3, 3, 3, 4, 4, 4, 4, 4, 4, 4, 4];
-
-// A byte as a number to count and index with.
-fn wide(x: u8) -> usize
-    ensures { λ r. ⌜ r ≡ x ⌝ }
-{
-    x as usize
-}
 
 // How many bytes the body of a record of this kind has; 0 for an unknown kind.
 pub fn body_length(kind: u8) -> usize
@@ -90,33 +86,15 @@ pub fn same_at(bytes: &[u8], arities: [u8; 16], a: usize, b: usize) -> bool
     true
 }
 
-// The smaller of two numbers.
-fn least(a: usize, b: usize) -> usize
-    ensures { λ r. ⌜ r ≡ min a b ⌝ }
-{
-    if a < b { a } else { b }
-}
-
-// How far it is from start to end; 0 where the end lies before the start.
-fn between(start: usize, end: usize) -> usize
-    ensures { λ r. ⌜ r ≡ end - start ⌝ }
-{
-    if start < end { end - start } else { 0 }
-}
-
 // Lays the bytes from start to end at the start of `out`, as far as there are such and as many as fit, and answers how many.
 // Later bytes of `out` keep their values.
 pub fn copy(bytes: &[u8], start: usize, end: usize, out: &mut [u8]) -> usize
     ensures laid { λ r. ⌜ r ≡ length (copied (now (bytes .entry)) start end (length (now (out .entry)))) ⌝ }
     ensures kept { λ _. ⌜ now (out .exit) ≡ overlaid (copied (now (bytes .entry)) start end (length (now (out .entry)))) (now (out .entry)) ⌝ }
 {
-    let asked = between(start, end);
-    let there = between(start, bytes.len());
-    let many = least(least(asked, there), out.len());
-    let mut laid: usize = 0;
-    while laid < many {
-        out[laid] = bytes[start + laid];
-        laid += 1;
+    let stop = if end < bytes.len() { end } else { bytes.len() };
+    if stop <= start {
+        return 0;
     }
-    laid
+    write_text(&bytes[start..stop], out)
 }

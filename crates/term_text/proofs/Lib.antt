@@ -1,3 +1,2 @@
-pub mod Each
 pub mod TermText
 pub mod Settled

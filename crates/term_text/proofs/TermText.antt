@@ -9,11 +9,10 @@ use Rattle.text.specs.Laying.{Lays}
 use Rattle.text.specs.Text.{ascii}
 use Rattle.text.proofs.Laying.{lays-as, lays-then, lays-length}
 use Rattle.term.specs.Term.{Term, Args, var, app, nil, cons}
-use Rattle.term.specs.Prefix.{Node, symbolic, variable, arityOf}
+use Rattle.term.specs.Prefix.{Node, symbolic, variable, nodeOf, arityOf}
 use Rattle.term.specs.At.{At, ArgsAt, variableAt, symbolAt, noneAt, andAt}
 use Rattle.term.proofs.At.{at-root, args-first, args-none}
-use Rattle.book.specs.Meaning.{nodeOf}
-use Rattle.book.proofs.Nodes.{symbol-node, variable-node}
+use Rattle.term.proofs.Nodes.{symbol-node, variable-node}
 use Rattle.term_text.specs.TermText.{nameText, termText, bracketed, laterText, argumentsText, LaysTerm, LaysArguments}
 use Rattle.term_text.specs.declared.terms.Texted.{Texted}
 

@@ -4,8 +4,7 @@ use text::wide;
 use text::writing::write_byte;
 ghost use mathlib.Core.Path.{_≡_};
 ghost use Rattle.text.specs.Laying.{Lays};
-ghost use Rattle.term.specs.Prefix.{arityOf};
-ghost use Rattle.book.specs.Meaning.{nodeOf};
+ghost use Rattle.term.specs.Prefix.{nodeOf, arityOf};
 ghost use Rattle.term_text.specs.TermText.{nameText, LaysTerm, LaysArguments};
 
 // How many bytes of text were laid, and the place behind what they tell.

@@ -2,8 +2,6 @@ pub mod Cases
 pub mod Decimal
 pub mod LastDigit
 pub mod Words
-pub mod Pieces
-pub mod SameText
-pub mod Numbers
 pub mod Laying
+pub mod Each
 pub mod Settled

@@ -1,5 +1,4 @@
-// Texts as bytes: numbers and texts laid onto a lent buffer, words and numbers read from a text.
-pub mod reading;
+// Texts as bytes: numbers and texts laid onto a lent buffer. The definitions stand in specs/.
 pub mod writing;
 
 ghost use mathlib.Core.Path.{_≡_};

@@ -1,7 +1,7 @@
 // Reading books and records: refusals 1 to 6, and 11.
 use crate::show;
 use book::BookVerdict;
-use book::RecordVerdict;
+use record::RecordVerdict;
 
 // What a read holds: so many of one, perhaps so many of another.
 fn counted(many: usize, of: &[u8]) {
@@ -28,12 +28,12 @@ pub(crate) fn record(book: &[u8], record: &[u8]) {
     let places = read.book;
     let symbols = places.symbols;
     let arities = places.arities;
-    let verdict = book::read_record(record, symbols, arities);
+    let verdict = record::read_record(record, symbols, arities);
     match verdict {
         RecordVerdict::Whole(nodes) => {
             show::text(b"read, ");
             counted(nodes, b" nodes");
         }
-        RecordVerdict::Faulty(fault) => show::refused(book::record_refusal(fault)),
+        RecordVerdict::Faulty(fault) => show::refused(record::record_refusal(fault)),
     }
 }

@@ -12,7 +12,7 @@ wide-requires c κs = search needs
 
 returns : tie.Need-returns
 unfolding opensOf
-returns c = let a = c .before .before .args in (c .wide .ensures .0 ∙ sym (rw (opensOf, eq-eqb (a .kind) 3 (c .before .if1 .taken))), c .wide .ensures .1)
+returns c = let a = c .before .before .args in (c .wide .ensures ∙ sym (rw (opensOf, eq-eqb (a .kind) 3 (c .before .if1 .taken))), omega (arith, c .wide .ensures, c .before .before .good .1 .0))
 
 returns-2 : tie.Need-returns-2
 unfolding opensOf

@@ -7,10 +7,10 @@ use native.Mathlib.Omega.{arith}
 use borrow.Author.Needs.{needs}
 use lib.ListN.{length, getD}
 use Rattle.term.specs.Tables.{bodyLength}
-use Rattle.term.specs.Prefix.{arityOf}
+use Rattle.term.specs.Prefix.{nodeOf, arityOf}
 use Rattle.book.specs.Checks.{bodyAt, checkedAs}
 use Rattle.book.specs.Entries.{withSymbol, withLeft, withRight, withRule}
-use Rattle.book.specs.Meaning.{nodeOf, opensOf, meaning}
+use Rattle.book.specs.Meaning.{opensOf, meaning}
 use Rattle.book.specs.Placed.{Reader, readerAfter, nodeTaken, ended, start, answer, placed}
 use Rattle.book.specs.Reading.{readBook}
 use Rattle.book.specs.Sides.{withNode}
@@ -110,7 +110,7 @@ node-leaves g is =
     let t = tested (taken g) in
     let q = reader-of t in
     let k = getD (bytes-of t) (place-of t) 0 in
-    let byte : g .before .before .before .wide .result ≡ getD (bytes-of t) (place-of t + 1) 0 = g .before .before .before .wide .ensures .0 ∙ taken g .before .byte-at .ensures in
+    let byte : g .before .before .before .wide .result ≡ getD (bytes-of t) (place-of t + 1) 0 = g .before .before .before .wide .ensures ∙ taken g .before .byte-at .ensures in
     let opened : g .before .opens .result ≡ arityOf (q .book .arities) (nodeOf k (getD (bytes-of t) (place-of t + 1) 0)) =
     g .before .opens .ensures .0 ∙ ap (λ (i : ℕ). opensOf k (getD (q .book .arities) i 0)) byte ∙ opens-its (q .book .arities) k (getD (bytes-of t) (place-of t + 1) 0)
     in
@@ -228,7 +228,7 @@ wide-requires : tie.Need-wide-requires Inv-loop μ-loop
 wide-requires c κs = search needs
 
 element-copy-out-opens : tie.Need-element-copy-out-opens Inv-loop μ-loop
-element-copy-out-opens c = omega (arith, c .wide .ensures .0, c .before .before .before .before .before .byte-at .ensures, node (c .before) .small)
+element-copy-out-opens c = omega (arith, c .wide .ensures, c .before .before .before .before .before .byte-at .ensures, node (c .before) .small)
 
 opens-requires : tie.Need-opens-requires Inv-loop μ-loop
 opens-requires c κs = search needs

@@ -14,9 +14,9 @@ use Rattle.reply.specs.Refusals.{numbered}
 use Rattle.reply.specs.declared.Refusal.{Refusal as Named}
 use Rattle.term.specs.At.{At}
 use Rattle.term.proofs.At.{at-within}
-use Rattle.book.specs.Record.{readRecord}
+use Rattle.record.specs.Record.{readRecord}
 use Rattle.book.specs.Meaning.{bookAt}
-use Rattle.book.proofs.RecordStands.{WholeTerm, whole-stands}
+use Rattle.record.proofs.Stands.{WholeTerm, whole-stands}
 use Rattle.steps.specs.NextStep.{Taken}
 use Rattle.steps.proofs.Questions.{record-faulty, record-whole, at-beginning}
 use Rattle.steps.proofs.NextAsked.{malformed, found}
@@ -50,7 +50,7 @@ module _ (c : tie.After-known-told2) where
   its : WholeTerm text (start .args .places .symbols) (start .args .places .arities) nodes
   its = whole-stands _ _ _ _ (sym (c .before .found2 .given .1) ∙ c .before .before .before .read-record .ensures .0)
 
-  read : readRecord (bookAt (now (start .args .book)) (start .args .places)) text ≡ given (its .term)
+  read : readRecord (bookAt (now (start .args .book)) (start .args .places) .arities) text ≡ given (its .term)
   read = record-whole _ _ _ (its .term) (its .is)
 
   small : nodes ≤ 256

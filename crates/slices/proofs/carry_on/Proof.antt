@@ -7,8 +7,9 @@ use borrow.Author.Needs.{needs}
 use denote.Ref.{now}
 use lib.ListN.{length, take, drop, replicate, length-append}
 use lib.Seq.{take-append-seam, length-take-le}
+use Rattle.reply.specs.Lent.{overlaid}
 use Rattle.reply.specs.Reply.{Reply}
-use Rattle.term.specs.Copied.{copied, overlaid}
+use Rattle.term.specs.Copied.{copied}
 use Rattle.term.proofs.Copied.{copied-whole}
 use Rattle.steps.specs.Run.{Ran, run}
 use Rattle.rewriting.specs.RunMeaning.{RunsTo}

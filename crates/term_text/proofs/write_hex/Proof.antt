@@ -9,7 +9,7 @@ use lib.ListN.{length, take}
 use Rattle.text.specs.Laying.{Lays}
 use Rattle.text.proofs.Laying.{lays-as, lays-length}
 use Rattle.term_text.specs.Numbers.{hexOf, hexText}
-use Rattle.term_text.proofs.Each.{lays-none, lays-next, lays-ended}
+use Rattle.text.proofs.Each.{lays-none, lays-next, lays-ended}
 use Rattle.term_text.proofs.write_hex.Statement.{statement}
 use Rattle.term_text.proofs.write_hex.Tie as tie
 

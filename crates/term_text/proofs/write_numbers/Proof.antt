@@ -10,7 +10,7 @@ use Rattle.text.specs.Text.{ascii}
 use Rattle.text.specs.Laying.{Lays}
 use Rattle.text.proofs.Laying.{lays-as, lays-length}
 use Rattle.term_text.specs.Numbers.{counted, numbersText}
-use Rattle.term_text.proofs.Each.{lays-none, lays-next, lays-ended}
+use Rattle.text.proofs.Each.{lays-none, lays-next, lays-ended}
 use Rattle.term_text.proofs.write_numbers.Statement.{statement}
 use Rattle.term_text.proofs.write_numbers.Tie as tie
 

@@ -6,7 +6,7 @@ use native.Mathlib.Omega.{arith}
 use lib.ListN.{length}
 use borrow.Author.Needs.{needs}
 use Rattle.answer.specs.Computing.{computing}
-use Rattle.text.proofs.Pieces.{next-within}
+use Rattle.words.proofs.Pieces.{next-within}
 use Rattle.answer.proofs.Stages.{not-faulty, neither-end}
 use Rattle.answer.proofs.AllLines.{From, at-first, line-on, line-faulty, read-closed, read-no-model, read-missing}
 use Rattle.answer.proofs.lines.read_values.Statement.{statement}

@@ -9,7 +9,7 @@ use borrow.Author.Needs.{needs}
 use Rattle.reply.specs.Reply.{Refusal}
 use Rattle.clauses.specs.Cnf.{Literal}
 use Rattle.answer.specs.Marks.{tableOf}
-use Rattle.text.proofs.Pieces.{next-within}
+use Rattle.words.proofs.Pieces.{next-within}
 use Rattle.answer.proofs.ValueLine.{Behind, at-first, behind-gap, behind-word, line-told, line-empty}
 use Rattle.answer.proofs.values.items_after.Statement.{statement}
 use Rattle.answer.proofs.values.items_after.Tie as tie

@@ -20,7 +20,7 @@ returns-2 : tie.Need-returns-2
 unfolding bodyFits kindOf
 returns-2 c =
     let args = c .before .before .args in
-    ap (λ b. ltb b (args .symbols)) (c .wide .ensures .0) ∙ ap (λ k. bodyFits (kindOf k) (args .symbols) (args .byte)) (sym (c .before .match .keys2))
+    ap (λ b. ltb b (args .symbols)) (c .wide .ensures) ∙ ap (λ k. bodyFits (kindOf k) (args .symbols) (args .byte)) (sym (c .before .match .keys2))
 
 returns-3 : tie.Need-returns-3
 unfolding bodyFits kindOf

@@ -10,7 +10,7 @@ use Rattle.clauses.specs.File.{literalBytes, clauseBytes}
 use Rattle.text.specs.Laying.{Lays}
 use Rattle.clause_bytes.specs.Meaning.{meant, against, partsIn}
 use Rattle.text.proofs.Laying.{lays-length, lays-as, lays-then}
-use Rattle.clause_bytes.proofs.Laid.{lays-none, lays-next}
+use Rattle.text.proofs.Each.{lays-none, lays-next}
 use Rattle.clauses.proofs.Lists.{flatMap-map}
 use Rattle.clause_bytes.proofs.parts.write_part_literals.Statement.{statement}
 use Rattle.clause_bytes.proofs.parts.write_part_literals.Tie as tie

@@ -11,7 +11,7 @@ use Rattle.clauses.specs.Blocks.{pairClauses, pairBlock}
 use Rattle.clauses.specs.File.{clauseBytes}
 use Rattle.text.specs.Laying.{Lays}
 use Rattle.text.proofs.Laying.{lays-length, lays-as}
-use Rattle.clause_bytes.proofs.Laid.{lays-none, lays-next}
+use Rattle.text.proofs.Each.{lays-none, lays-next}
 use Rattle.clauses.proofs.Lists.{flatMap-flatMap, numbers-length, numbers-at}
 use Rattle.pair_blocks.proofs.pairs.write_pair_block.Statement.{statement}
 use Rattle.pair_blocks.proofs.pairs.write_pair_block.Tie as tie

@@ -8,7 +8,7 @@ use Rattle.reply.specs.declared.Refusal.{Refusal as Named}
 use Rattle.book.specs.Meaning.{bookAt}
 use Rattle.book.specs.Reading.{readBook}
 use Rattle.book.specs.declared.Book.{Book as Places}
-use Rattle.book.proofs.RecordStands.{WholeTerm, whole-stands}
+use Rattle.record.proofs.Stands.{WholeTerm, whole-stands}
 use Rattle.book.proofs.WasRead.{read-from, read-given, read-refused}
 use Rattle.steps.specs.Argument.{Part}
 use Rattle.steps.proofs.ArgumentAsked.{not-read, malformed, asked}

@@ -9,9 +9,9 @@ use Rattle.reply.specs.Refusals.{numbered}
 use Rattle.reply.specs.declared.Refusal.{Refusal as Named}
 use Rattle.term.specs.Term.{Term}
 use Rattle.book.specs.Book.{Book}
-use Rattle.book.specs.Record.{readRecord}
+use Rattle.record.specs.Record.{readRecord}
 use Rattle.book.specs.Meaning.{bookAt}
-use Rattle.book.proofs.RecordStands.{WholeTerm, whole-stands}
+use Rattle.record.proofs.Stands.{WholeTerm, whole-stands}
 use Rattle.steps.proofs.RanCleared.{malformed, short, runs}
 use Rattle.steps.proofs.Questions.{record-faulty, record-whole}
 use Rattle.rewriting.proofs.RunsTo.{refused-run, runs-as}
@@ -41,7 +41,7 @@ module _ (c : tie.After-known-told2) where
   its : WholeTerm (now (start .args .«record»)) (start .args .places .symbols) (start .args .places .arities) (c .before .found2 .given .0 .0)
   its = whole-stands _ _ _ _ (sym (c .before .found2 .given .1) ∙ c .before .before .before .read-record .ensures .0)
 
-  read : readRecord book (now (start .args .«record»)) ≡ given (its .term)
+  read : readRecord (book .arities) (now (start .args .«record»)) ≡ given (its .term)
   read = record-whole _ _ _ (its .term) (its .is)
 
   small : c .before .found2 .given .0 .0 ≤ 256

@@ -8,9 +8,10 @@ use native.Mathlib.Omega.{arith}
 use borrow.Author.Needs.{needs}
 use denote.Ref.{now}
 use lib.ListN.{length, replicate, set, length-set}
+use Rattle.reply.specs.Lent.{overlaid}
 use Rattle.term.specs.Term.{Term}
 use Rattle.term.specs.At.{At}
-use Rattle.term.specs.Copied.{copied, overlaid}
+use Rattle.term.specs.Copied.{copied}
 use Rattle.matching.specs.Runnable.{rulesIn}
 use Rattle.rewriting.specs.Turns.{held, TermIn, RunTo}
 use Rattle.rewriting.specs.declared.running.Reached.{Reached}

@@ -3,7 +3,7 @@ use mathlib.Core.Path.{sym, ap, _∙_}
 use native.Mathlib.Omega.{arith}
 use borrow.Author.Needs.{needs}
 use lib.ListN.{getD, List·getD-eq-default}
-use Rattle.book.proofs.Nodes.{symbol-opens, variable-opens}
+use Rattle.term.proofs.Nodes.{symbol-opens, variable-opens}
 use Rattle.term_text.proofs.terms.arguments.Statement.{statement}
 use Rattle.term_text.proofs.terms.arguments.Tie as tie
 

@@ -3,7 +3,7 @@ use mathlib.Core.Path.{sym, ap, _∙_}
 use borrow.Author.Needs.{needs}
 use Rattle.text.specs.Text.{ascii}
 use Rattle.text.proofs.Laying.{lays-as}
-use Rattle.book.proofs.Nodes.{symbol-node, variable-node}
+use Rattle.term.proofs.Nodes.{symbol-node, variable-node}
 use Rattle.term_text.specs.Numbers.{counted}
 use Rattle.term_text.specs.TermText.{nameText}
 use Rattle.term_text.proofs.terms.write_name.Statement.{statement}

@@ -13,6 +13,7 @@ use Rattle.text.proofs.writing.write_digit.Reads as write-digit-reads
 use Rattle.text.proofs.writing.+write_decimal.{statement}
 use Rattle.text.proofs.writing.+write_decimal.Tie.{close}
 
+-- The measure, and what a call of itself asks: a smaller number.
 abbrev μ-write-decimal : Measures 1 write-decimal-kinds.ps ℕ
 μ-write-decimal κs a = a .0
 
@@ -31,6 +32,7 @@ write-decimal-below t =
 abbrev calls : ℕ → write-decimal-lts.Claims
 calls t = (write-digit-reads.Asked, write-digit-reads.Learnt, write-decimal-below t, write-decimal.Post)
 
+-- That calls, parts and sums are in range.
 write-decimal-write-digit-requires : (t : ℕ) → write-decimal-lts.Need-write-digit-requires (calls t) (write-decimal-at t) write-decimal.Post
 write-decimal-write-digit-requires t c κs = search needs
 
@@ -55,6 +57,7 @@ write-decimal-add-result t c = search needs
 write-decimal-same-length : (t : ℕ) → write-decimal-lts.Need-same-length (calls t) (write-decimal-at t) write-decimal.Post
 write-decimal-same-length t c = search needs
 
+-- One digit, and the last digit behind the others.
 write-decimal-returns : (t : ℕ) → write-decimal-lts.Need-returns (calls t) (write-decimal-at t) write-decimal.Post
 write-decimal-returns t c = rw (decimal-digit (c .before .before .before .before .before .before .args .n) (c .before .before .before .before .if1 .taken)) (c .before .before .write-digit .ensures)
 

@@ -1,0 +1,4 @@
+pub mod Record
+pub mod Meaning
+pub mod Examples
+pub mod Computing

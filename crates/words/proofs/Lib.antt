@@ -1,0 +1,4 @@
+pub mod Pieces
+pub mod SameText
+pub mod Numbers
+pub mod Settled
