@@ -13,8 +13,8 @@ use Rattle.term.specs.Tables.{Kind, kindOf, bodyLength, bodyLengths}
 use Rattle.term.specs.Prefix.{Node, symbolic, variable, nodeOf, arityOf}
 use Rattle.book.specs.Checks.{bodyAt, known, allowed, bodyFits, roomLeft}
 use Rattle.book.specs.Entries.{nothingRead, withSymbol, withLeft, withRight, withRule}
-use Rattle.book.specs.Placed.{Reader, readerAfter, nodeTaken, next, start}
-use Rattle.book.specs.Sides.{sideOpen, noSide, opened, whole, sideAfter, withNode}
+use Rattle.book.specs.Placed.{Reader, sideWhole, sideAfter, nodeTaken, next, start}
+use Rattle.book.specs.Sides.{sideOpen, leftOpen, noSide, opened, withNode}
 use Rattle.book.specs.declared.Book.{Book as PlacedBook}
 use Rattle.book.specs.declared.sides.Stage.{Stage}
 use Rattle.book.specs.declared.sides.Stage.the-variants.{BeforeRules, InLeft, InRight, RuleWhole}
@@ -91,8 +91,8 @@ node-arity b (variable x) tables = omega arith
 -- A side that is open, behind a node.
 side-kept :
     (b : PlacedBook) (e : ℕ) (stage : Stage) (m n : ℕ) → TablesKept b → T (sideOpen stage) → b .rules < 32 → n ≤ 10 → m ≤ 1 + 6 * n →
-    ReaderKept (readerAfter b e (sideAfter stage m n))
-unfolding sideOpen sideAfter whole readerAfter withRight withRule opened noSide
+    ReaderKept (sideAfter b e stage m n)
+unfolding sideOpen sideAfter sideWhole leftOpen withRight withRule opened noSide
 side-kept b e BeforeRules m n tables o room few bound = absurd o
 side-kept b e InLeft zero n tables o room few bound =
     record {

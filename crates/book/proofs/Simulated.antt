@@ -14,11 +14,11 @@ use Rattle.term.proofs.Prefix.{NodeOver, declared, standing, nodeBytes}
 use Rattle.book.specs.Book.{Rule}
 use Rattle.book.specs.Checks.{bodyAt, known, allowed, bodyFits, roomLeft}
 use Rattle.book.specs.Entries.{withSymbol, withLeft, withRight}
-use Rattle.book.specs.Sides.{sideOpen, noRuleYet, noSide, opened, whole, sideAfter, withNode}
+use Rattle.book.specs.Sides.{sideOpen, noRuleYet, leftOpen, noSide, opened, withNode}
 use Rattle.book.specs.Reading as trees
 use Rattle.book.specs.Reading.{Stage, beforeRules, inLeft, inRight, ruleWhole, State, sideOf}
 use Rattle.book.specs.Placed as places
-use Rattle.book.specs.Placed.{Reader, readerAfter, nodeTaken}
+use Rattle.book.specs.Placed.{Reader, sideWhole, sideAfter, nodeTaken}
 use Rattle.book.specs.Meaning.{aritiesOf}
 use Rattle.book.specs.declared.Book.{Book as PlacedBook}
 use Rattle.book.specs.declared.sides.Side.{Side}
@@ -102,8 +102,8 @@ module _ {bytes : List ℕ} {s : State} {q : Reader} {p : ℕ} (sim : Simulated 
   -- The left side behind a node of it, from which m subterms are missing then.
   left-simulated :
       (e m : ℕ) (ns : List Node) → q .book .rules < 32 → SoFar bytes (s .arities) (getD (q .book .«left_at») (q .book .rules) 0) m ns e →
-      Simulated bytes (trees.leftAfter s m ns) (readerAfter (q .book) e (sideAfter InLeft m (length ns))) e
-  unfolding trees.leftAfter sideAfter whole readerAfter withRight sideOf opened
+      Simulated bytes (trees.leftAfter s m ns) (sideAfter (q .book) e InLeft m (length ns)) e
+  unfolding trees.leftAfter sideAfter sideWhole leftOpen withRight sideOf opened
   left-simulated e zero ns room so =
       let at : getD (set (q .book .«right_at») (q .book .rules) e) (q .book .rules) 0 ≡ e =
       getD-set-same (q .book .«right_at») (q .book .rules) e 0 (omega (arith, sim .matched .sized .rightAt))
@@ -130,8 +130,8 @@ module _ {bytes : List ℕ} {s : State} {q : Reader} {p : ℕ} (sim : Simulated 
   right-simulated :
       (left : Term) (e m : ℕ) (ns : List Node) → q .book .rules < 32 → LeftWhole bytes (s .arities) (q .book) left →
       SoFar bytes (s .arities) (getD (q .book .«right_at») (q .book .rules) 0) m ns e →
-      Simulated bytes (trees.rightAfter s left m ns) (readerAfter (q .book) e (sideAfter InRight m (length ns))) e
-  unfolding trees.rightAfter sideAfter whole readerAfter sideOf noSide
+      Simulated bytes (trees.rightAfter s left m ns) (sideAfter (q .book) e InRight m (length ns)) e
+  unfolding trees.rightAfter sideAfter sideWhole leftOpen sideOf noSide
   right-simulated left e zero ns room lw so =
       let u = getD (q .book .«right_at») (q .book .rules) 0 in
       let stood = side-whole so in
@@ -156,11 +156,11 @@ module _ {bytes : List ℕ} {s : State} {q : Reader} {p : ℕ} (sim : Simulated 
   -- The reader behind a node, in the numbers of the trees' machine.
   taken-as :
       (e : ℕ) (this : Node) → NodeOver (s .arities) AnyVariable this → (side : Side) (ns : List Node) → q .side ≡ side → side .nodes ≡ length ns →
-      readerAfter (q .book) e (sideAfter (side .stage) (pred (side .missing) + arityOf (s .arities) this) (length (ns ++ (this ∷ [])))) ≡ nodeTaken q e this
+      sideAfter (q .book) e (side .stage) (pred (side .missing) + arityOf (s .arities) this) (length (ns ++ (this ∷ []))) ≡ nodeTaken q e this
   unfolding nodeTaken withNode
   taken-as e this ok side ns same many =
-      ap (λ (n : ℕ). readerAfter (q .book) e (sideAfter (side .stage) (pred (side .missing) + arityOf (s .arities) this) n)) (length-append ns (this ∷ []) ∙ ap (λ (n : ℕ). n + 1) (sym many))
-      ∙ ap₂ (λ (t : Side) (a : ℕ). readerAfter (q .book) e (withNode t a)) (sym same) (sym (arity-same this ok))
+      ap (λ (n : ℕ). sideAfter (q .book) e (side .stage) (pred (side .missing) + arityOf (s .arities) this) n) (length-append ns (this ∷ []) ∙ ap (λ (n : ℕ). n + 1) (sym many))
+      ∙ ap₂ (λ (t : Side) (a : ℕ). let w = withNode t a in sideAfter (q .book) e (w .stage) (w .missing) (w .nodes)) (sym same) (sym (arity-same this ok))
 
   -- A node of the side that is open.
   node-simulated :

@@ -1,16 +1,23 @@
 -- The machine over places, record by record: what reading goes on with after each. Assumes nothing.
 use Prim.Native.Nat.{ℕ, zero, suc, _+_, _≤_, _<_}
+use mathlib.Core.Bool.{true, false}
 use mathlib.Core.List.{List}
 use mathlib.Core.Path.{_≡_, refl, sym, ap, _∙_}
 use native.Mathlib.Omega.{arith}
-use borrow.Author.Tests.{lt-ltb, le-ltb, eq-eqb, ne-eqb}
+use borrow.Author.Tests.{le-leb, lt-leb, lt-ltb, le-ltb, eq-eqb, ne-eqb}
 use lib.ListN.{length, getD}
-use Rattle.reply.specs.Reply.{Attempt, given, refused, _>>_}
+use Rattle.reply.specs.Reply.{Attempt, given, refused, unless, _>>_}
 use Rattle.reply.specs.declared.Refusal.{Refusal as Named}
-use Rattle.reply.specs.declared.Refusal.the-variants.{BookEnded}
+use Rattle.reply.specs.declared.Refusal.the-variants.{BookEnded, AfterEnd}
 use Rattle.term.specs.Tables.{kindOf, bodyLength}
-use Rattle.book.specs.Checks.{bodyAt, checked}
-use Rattle.book.specs.Placed.{Reader, next, ended, placedFrom, start, answer, placed}
+use Rattle.book.specs.Checks.{bodyAt, checked, nothingMore}
+use Rattle.book.specs.Entries.{withRight, withRule}
+use Rattle.book.specs.Placed.{Reader, sideWhole, sideAfter, next, ended, placedFrom, start, answer, placed}
+use Rattle.book.specs.Sides.{leftOpen, noSide, opened}
+use Rattle.book.specs.declared.Book.{Book as PlacedBook}
+use Rattle.book.specs.declared.BookVerdict.the-variants.{Readable}
+use Rattle.book.specs.declared.sides.Side.{Side}
+use Rattle.book.specs.declared.sides.Stage.the-variants.{InRight, RuleWhole}
 
 -- The tests of the record that stands at p.
 abbrev pub testsOf : (bytes : List ℕ) → Reader → (p : ℕ) → Attempt Named (Unit {0})
@@ -88,3 +95,41 @@ module _ (bytes : List ℕ) (q : Reader) (p : ℕ) where
         Continues bytes (nextAt bytes q p) (behind bytes p)
     taken-here c e k =
         with-fuel (λ fuel enough same. record { fuel = fuel; enough = omega arith; same = sym (taken-step fuel e k) ∙ same }) c
+
+-- A side behind a node: it is still open, or it is whole.
+module _ (b : PlacedBook) (e : ℕ) (side : Side) where
+  pub still-open : (side .missing ≡ 0 → ⊥) → sideAfter b e (side .stage) (side .missing) (side .nodes) ≡ record { book = b; side = side }
+  unfolding sideAfter
+  still-open some = go (side .missing) some
+    where
+      go :
+          (m : ℕ) → (m ≡ 0 → ⊥) →
+          sideAfter b e (side .stage) m (side .nodes) ≡ record { book = b; side = record { stage = side .stage; missing = m; nodes = side .nodes } }
+      go zero some = absurd (some refl)
+      go (suc m) some = refl
+
+  now-whole : side .missing ≡ 0 → sideAfter b e (side .stage) (side .missing) (side .nodes) ≡ sideWhole b e (side .stage) (side .nodes)
+  unfolding sideAfter
+  now-whole none = ap (λ (m : ℕ). sideAfter b e (side .stage) m (side .nodes)) none
+
+  pub left-whole :
+      side .missing ≡ 0 → leftOpen (side .stage) ≡ true →
+      sideAfter b e (side .stage) (side .missing) (side .nodes) ≡ record { book = withRight b (side .nodes) e; side = opened InRight }
+  unfolding sideWhole
+  left-whole none left = now-whole none ∙ rw (sideWhole, left)
+
+  pub right-whole :
+      side .missing ≡ 0 → leftOpen (side .stage) ≡ false →
+      sideAfter b e (side .stage) (side .missing) (side .nodes) ≡ record { book = withRule b (side .nodes); side = noSide RuleWhole }
+  unfolding sideWhole
+  right-whole none right = now-whole none ∙ rw (sideWhole, right)
+
+-- The end record: something stands behind it, or the book is read.
+module _ (len : ℕ) (b : PlacedBook) (p : ℕ) where
+  pub after-end : p < len → answer (refused (AfterEnd p)) ≡ answer (ended len b p)
+  unfolding ended nothingMore unless _>>_
+  after-end more = ap answer (rw (ended, lt-leb len p more))
+
+  pub all-read : len ≤ p → record { verdict = Readable; book = b } ≡ answer (ended len b p)
+  unfolding ended nothingMore unless _>>_ answer
+  all-read none = rw (ended, le-leb len p none)

@@ -1,5 +1,5 @@
 -- The five tests of one record, in their order: what each refusal and the taking of a record say of them. Assumes nothing.
-use Prim.Native.Nat.{ℕ, _+_, _≤_, _<_}
+use Prim.Native.Nat.{ℕ, zero, suc, _+_, _≤_, _<_}
 use mathlib.Core.Bool.{Bool, true, false}
 use mathlib.Core.List.{List}
 use mathlib.Core.Path.{_≡_, refl, sym, ap, subst, _∙_}
@@ -12,22 +12,20 @@ use Rattle.reply.specs.declared.Refusal.{Refusal as Named}
 use Rattle.reply.specs.declared.Refusal.the-variants.{BookEnded, UnknownKind, NotAllowed, BadBody, TooMany}
 use Rattle.reply.proofs.Given.{then-given, unless-given, unless-given-alone}
 use Rattle.term.specs.Tables.{kindOf, bodyLength}
-use Rattle.book.specs.Checks.{known, allowed, bodyFits, bodyChecked, roomLeft, checked, checkedAs}
-use Rattle.book.specs.declared.checks.Checked.the-variants.{Taken, Refused}
+use Rattle.book.specs.Checks.{known, allowed, bodyFits, bodyChecked, roomLeft, checked, refusalNumbered, numberTold}
 use Rattle.book.specs.declared.sides.Side.{Side}
 use Rattle.book.specs.Checks.{bodyAt}
 use Rattle.book.proofs.Bodies.{cut-body, whole-body, body-tests, first-fits}
 
--- What the answer of the tests tells of them.
-pub checked-taken : (x : Attempt Named (Unit {0})) → checkedAs x ≡ Taken → x ≡ given tt
-unfolding checkedAs
-checked-taken (given t) e = refl
-checked-taken (refused r) e = let z : _≡_ {A = ℕ} 0 1 = cc in absurd (omega arith)
+-- What the number of a refusal tells.
+pub told-taken : (len p : ℕ) {number : ℕ} → number ≡ 0 → numberTold len p number ≡ given tt
+unfolding numberTold
+told-taken len p none = ap (numberTold len p) none
 
-pub checked-refused : (x : Attempt Named (Unit {0})) (r : Named) → checkedAs x ≡ Refused r → x ≡ refused r
-unfolding checkedAs
-checked-refused (given t) r e = let z : _≡_ {A = ℕ} 0 1 = cc in absurd (omega arith)
-checked-refused (refused s) r e = cc
+pub told-refused : (len p number : ℕ) → (number ≡ 0 → ⊥) → numberTold len p number ≡ refused (refusalNumbered len p number)
+unfolding numberTold
+told-refused len p zero some = absurd (some refl)
+told-refused len p (suc number) some = refl
 
 -- The record at p of a book: its tests, one behind the other.
 module _ (bytes : List ℕ) (p : ℕ) (side : Side) (symbols rules : ℕ) where

@@ -1,5 +1,5 @@
 -- The tests of one record of a book, and of what stands behind its end. The reading to trees and the reading to places ask the same.
-use Prim.Native.Nat.{ℕ, _+_}
+use Prim.Native.Nat.{ℕ, zero, suc, _+_}
 use mathlib.Core.Bool.{Bool, true, false, not}
 use mathlib.Core.List.{List, [], _∷_}
 use lib.Dec.{leb, ltb}
@@ -9,8 +9,6 @@ use Rattle.reply.specs.declared.Refusal.{Refusal as Named}
 use Rattle.reply.specs.declared.Refusal.the-variants.{BookEnded, UnknownKind, NotAllowed, BadBody, TooMany, AfterEnd}
 use Rattle.term.specs.Tables.{Kind, unknown, symbol, rule, symbolNode, variableNode, end, kindOf, bodyLength}
 use Rattle.book.specs.Sides.{sideOpen, noRuleYet}
-use Rattle.book.specs.declared.checks.Checked.{Checked}
-use Rattle.book.specs.declared.checks.Checked.the-variants.{Taken, Refused}
 use Rattle.book.specs.declared.sides.Side.{Side}
 use Rattle.book.specs.declared.sides.Stage.{Stage}
 
@@ -79,7 +77,11 @@ checkedAt bytes p = checked (length bytes) p (getD bytes p 0) (bodyAt bytes p)
 unfoldable pub nothingMore : (len p : ℕ) → Attempt Named (Unit {0})
 nothingMore len p = unless (leb len p) (AfterEnd p)
 
--- The code's answer to the tests.
-unfoldable pub checkedAs : Attempt Named (Unit {0}) → Checked
-checkedAs (given t) = Taken
-checkedAs (refused r) = Refused r
+-- The refusal of the record at p that has this number, 1 to 5.
+unfoldable pub refusalNumbered : (len p number : ℕ) → Named
+refusalNumbered len p number = getD (TooMany p ∷ BookEnded len ∷ UnknownKind p ∷ NotAllowed p ∷ BadBody (p + 1) ∷ []) number (TooMany p)
+
+-- What a number says of the record at p: 0 that it is taken, another that it is refused.
+unfoldable pub numberTold : (len p number : ℕ) → Attempt Named (Unit {0})
+numberTold len p zero = given tt
+numberTold len p (suc number) = refused (refusalNumbered len p (suc number))

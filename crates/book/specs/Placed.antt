@@ -12,13 +12,12 @@ use Rattle.term.specs.Tables.{Kind, unknown, symbol, rule, symbolNode, variable
 use Rattle.term.specs.Prefix.{Node, symbolic, variable, arityOf}
 use Rattle.book.specs.Checks.{bodyAt, checkedAt, nothingMore}
 use Rattle.book.specs.Entries.{nothingRead, withSymbol, withLeft, withRight, withRule}
-use Rattle.book.specs.Sides.{noSide, opened, withNode}
+use Rattle.book.specs.Sides.{leftOpen, noSide, opened, withNode}
 use Rattle.book.specs.declared.Book.{Book as PlacedBook}
 use Rattle.book.specs.declared.BookVerdict.the-variants.{Readable, Refused}
 use Rattle.book.specs.declared.ReadBook.{ReadBook}
 use Rattle.book.specs.declared.sides.Side.{Side}
-use Rattle.book.specs.declared.sides.SideAfter.{SideAfter}
-use Rattle.book.specs.declared.sides.SideAfter.the-variants.{Open, LeftWhole, RightWhole}
+use Rattle.book.specs.declared.sides.Stage.{Stage}
 use Rattle.book.specs.declared.sides.Stage.the-variants.{BeforeRules, InLeft, InRight, RuleWhole}
 
 -- What was read so far, and the side that is being read.
@@ -27,13 +26,22 @@ pub record Reader : Type 0 where
   pub side : Side
 
 -- A left side that is whole gives way to the right, which starts at e, and a right side that is whole ends its rule.
-unfoldable pub readerAfter : PlacedBook → (e : ℕ) → SideAfter → Reader
-readerAfter b e (Open side) = record { book = b; side = side }
-readerAfter b e (LeftWhole nodes) = record { book = withRight b nodes e; side = opened InRight }
-readerAfter b e (RightWhole nodes) = record { book = withRule b nodes; side = noSide RuleWhole }
+unfoldable pub sideWhole : PlacedBook → (e : ℕ) → Stage → (nodes : ℕ) → Reader
+sideWhole b e stage nodes =
+    elim (leftOpen stage) [
+      | true ↦ record { book = withRight b nodes e; side = opened InRight }
+      | false ↦ record { book = withRule b nodes; side = noSide RuleWhole }
+    ]
+
+-- A side is whole when no subterm is missing.
+unfoldable pub sideAfter : PlacedBook → (e : ℕ) → Stage → (missing nodes : ℕ) → Reader
+sideAfter b e stage zero nodes = sideWhole b e stage nodes
+sideAfter b e stage (suc missing) nodes = record { book = b; side = record { stage = stage; missing = suc missing; nodes = nodes } }
 
 unfoldable pub nodeTaken : Reader → (e : ℕ) → Node → Reader
-nodeTaken q e node = readerAfter (q .book) e (withNode (q .side) (arityOf (q .book .arities) node))
+nodeTaken q e node =
+    let side = withNode (q .side) (arityOf (q .book .arities) node) in
+    sideAfter (q .book) e (side .stage) (side .missing) (side .nodes)
 
 -- A record of this kind and with this body is taken; the next one is at e.
 unfoldable pub next : Kind → Reader → (e : ℕ) (body : List ℕ) → Reader

@@ -2,8 +2,6 @@
 use Prim.Native.Nat.{ℕ, zero, suc, _+_, pred}
 use mathlib.Core.Bool.{Bool, true, false}
 use Rattle.book.specs.declared.sides.Side.{Side}
-use Rattle.book.specs.declared.sides.SideAfter.{SideAfter}
-use Rattle.book.specs.declared.sides.SideAfter.the-variants.{Open, LeftWhole, RightWhole}
 use Rattle.book.specs.declared.sides.Stage.{Stage}
 use Rattle.book.specs.declared.sides.Stage.the-variants.{BeforeRules, InLeft, InRight, RuleWhole}
 
@@ -19,6 +17,12 @@ noRuleYet InLeft = false
 noRuleYet InRight = false
 noRuleYet RuleWhole = false
 
+unfoldable pub leftOpen : Stage → Bool
+leftOpen BeforeRules = false
+leftOpen InLeft = true
+leftOpen InRight = false
+leftOpen RuleWhole = false
+
 -- No side is open.
 unfoldable pub noSide : Stage → Side
 noSide stage = record { stage = stage; missing = 0; nodes = 0 }
@@ -27,18 +31,6 @@ noSide stage = record { stage = stage; missing = 0; nodes = 0 }
 unfoldable pub opened : Stage → Side
 opened stage = record { stage = stage; missing = 1; nodes = 0 }
 
--- A left side that is whole, or else a right one.
-unfoldable pub whole : Stage → (nodes : ℕ) → SideAfter
-whole BeforeRules nodes = RightWhole nodes
-whole InLeft nodes = LeftWhole nodes
-whole InRight nodes = RightWhole nodes
-whole RuleWhole nodes = RightWhole nodes
-
--- A side is whole when no subterm is missing.
-unfoldable pub sideAfter : Stage → (missing nodes : ℕ) → SideAfter
-sideAfter stage zero nodes = whole stage nodes
-sideAfter stage (suc missing) nodes = Open (record { stage = stage; missing = suc missing; nodes = nodes })
-
 -- A node fills one place of its side and opens as many as its arity.
-unfoldable pub withNode : Side → (opens : ℕ) → SideAfter
-withNode side opens = sideAfter (side .stage) (pred (side .missing) + opens) (side .nodes + 1)
+unfoldable pub withNode : Side → (opens : ℕ) → Side
+withNode side opens = record { stage = side .stage; missing = pred (side .missing) + opens; nodes = side .nodes + 1 }

@@ -1,5 +1,4 @@
 // The tests of one record of a book.
-use crate::byte_at;
 use crate::sides::Side;
 use crate::sides::Stage;
 use crate::sides::no_rule_yet;
@@ -7,16 +6,10 @@ use crate::sides::side_open;
 use reply::Refusal;
 use text::wide;
 ghost use mathlib.Core.Path.{_≡_};
-ghost use Prim.Native.Nat.{_<_};
-ghost use lib.ListN.{length};
+ghost use Prim.Native.Nat.{_+_, _<_};
+ghost use lib.ListN.{length, getD};
 ghost use Rattle.term.specs.Tables.{kindOf};
-ghost use Rattle.book.specs.Checks.{known, allowed, bodyFits, roomLeft, checkedAt, checkedAs};
-
-// Whether one record is taken.
-pub enum Checked {
-    Taken,
-    Refused(Refusal),
-}
+ghost use Rattle.book.specs.Checks.{known, allowed, bodyFits, roomLeft, checkedAt, refusalNumbered, numberTold};
 
 // Kinds 1 to 5.
 fn is_known(kind: u8) -> bool
@@ -64,32 +57,51 @@ fn room_left(kind: u8, symbols: usize, rules: usize, nodes: usize) -> bool
     }
 }
 
-// The record whose kind byte stands at `at`, in the order 2, 1, 3, 4, 5.
-pub fn check_record(bytes: &[u8], at: usize, side: Side, symbols: usize, rules: usize) -> Checked
+// The record whose kind byte stands at `at`, in the order 2, 1, 3, 4, 5: the number of its first refusal, 0 if it is taken. The caller has
+// read the kind and the byte behind it.
+pub fn check_record(
+    bytes: &[u8],
+    at: usize,
+    kind: u8,
+    body: u8,
+    side: Side,
+    symbols: usize,
+    rules: usize,
+) -> u8
     requires { ⌜ at < length (now bytes) ⌝ }
-    ensures { λ r. ⌜ r ≡ checkedAs (checkedAt (now (bytes .entry)) at side symbols rules) ⌝ }
+    requires { ⌜ kind ≡ getD (now bytes) at 0 ⌝ }
+    requires { ⌜ body ≡ getD (now bytes) (at + 1) 0 ⌝ }
+    ensures { λ r. ⌜ checkedAt (now (bytes .entry)) at side symbols rules ≡ numberTold (length (now (bytes .entry))) at r ⌝ }
 {
-    let len = bytes.len();
-    let kind = bytes[at];
     if !is_known(kind) {
-        return Checked::Refused(Refusal::UnknownKind(at));
+        return 2;
     }
-    if len - at - 1 < term::body_length(kind) {
-        return Checked::Refused(Refusal::BookEnded(len));
+    if bytes.len() - at - 1 < term::body_length(kind) {
+        return 1;
     }
-    let body = at + 1;
     let stage = side.stage;
-    let allowed = is_allowed(kind, stage);
-    let fits = body_fits(kind, symbols, byte_at(bytes, body));
-    let room = room_left(kind, symbols, rules, side.nodes);
-    if !allowed {
-        return Checked::Refused(Refusal::NotAllowed(at));
+    if !is_allowed(kind, stage) {
+        return 3;
     }
-    if !fits {
-        return Checked::Refused(Refusal::BadBody(body));
+    if !body_fits(kind, symbols, body) {
+        return 4;
     }
-    if !room {
-        return Checked::Refused(Refusal::TooMany(at));
+    if !room_left(kind, symbols, rules, side.nodes) {
+        return 5;
     }
-    Checked::Taken
+    0
+}
+
+// The refusal of this number, 1 to 5, of the record at `at`.
+pub fn refusal_numbered(number: u8, len: usize, at: usize) -> Refusal
+    requires { ⌜ at < len ⌝ }
+    ensures { λ r. ⌜ r ≡ refusalNumbered len at number ⌝ }
+{
+    match number {
+        1 => Refusal::BookEnded(len),
+        2 => Refusal::UnknownKind(at),
+        3 => Refusal::NotAllowed(at),
+        4 => Refusal::BadBody(at + 1),
+        _ => Refusal::TooMany(at),
+    }
 }

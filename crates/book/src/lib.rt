@@ -2,11 +2,11 @@
 mod checks;
 mod sides;
 
-use checks::Checked;
 use checks::check_record;
+use checks::refusal_numbered;
 use reply::Refusal;
-use sides::SideAfter;
 use sides::Stage;
+use sides::left_open;
 use sides::no_side;
 use sides::open_side;
 use sides::with_node;
@@ -18,7 +18,7 @@ ghost use Rattle.reply.specs.Reply.{refused};
 ghost use Rattle.book.specs.Reading.{readBook};
 ghost use Rattle.book.specs.Meaning.{opensOf, meaning};
 ghost use Rattle.book.specs.Entries.{nothingRead};
-ghost use Rattle.book.specs.Placed.{ended, answer, placed};
+ghost use Rattle.book.specs.Placed.{answer, placed};
 
 // A book that was read, as places in its bytes: there is no heap for trees, and the bytes stay with the caller. Symbol f has arity
 // arities[f]. The left side of rule i stands from left_at[i] on and has left_nodes[i] nodes, the right side from right_at[i] on and has
@@ -86,22 +86,8 @@ fn opens(kind: u8, arity: u8) -> usize
     if kind == 3 { wide(arity) } else { 0 }
 }
 
-// "Then kind 5 and nothing more": the end record stands right before `at`.
-fn finish(len: usize, book: Book, at: usize) -> ReadBook
-    ensures { λ r. ⌜ r ≡ answer (ended len book at) ⌝ }
-{
-    if at < len {
-        refuse(Refusal::AfterEnd(at))
-    } else {
-        ReadBook {
-            verdict: BookVerdict::Readable,
-            book,
-        }
-    }
-}
-
 // Reads a book: its records from left to right, each checked and then taken into the places. The left side of a rule starts behind its
-// kind 2 record, the right side behind the left.
+// kind 2 record, the right side behind the left; "then kind 5 and nothing more".
 pub fn read_book(bytes: &[u8]) -> ReadBook
     ensures settled { λ r. ⌜ r ≡ placed (now (bytes .entry)) ⌝ }
     ensures means { λ r. ⌜ meaning (now (bytes .entry)) r ≡ readBook (now (bytes .entry)) ⌝ }
@@ -110,17 +96,23 @@ pub fn read_book(bytes: &[u8]) -> ReadBook
     let mut side = no_side(Stage::BeforeRules);
     let mut at: usize = 0;
     while at < bytes.len() {
-        let symbols = book.symbols;
-        let rules = book.rules;
-        let checked = check_record(bytes, at, side, symbols, rules);
-        if let Checked::Refused(refusal) = checked {
-            return refuse(refusal);
-        }
         let kind = bytes[at];
         let body = byte_at(bytes, at + 1);
+        let symbols = book.symbols;
+        let rules = book.rules;
+        let number = check_record(bytes, at, kind, body, side, symbols, rules);
+        if number != 0 {
+            return refuse(refusal_numbered(number, bytes.len(), at));
+        }
         at += 1 + term::body_length(kind);
         if kind == 5 {
-            return finish(bytes.len(), book, at);
+            if at < bytes.len() {
+                return refuse(Refusal::AfterEnd(at));
+            }
+            return ReadBook {
+                verdict: BookVerdict::Readable,
+                book,
+            };
         }
         if kind == 1 {
             book.arities[symbols] = body;
@@ -130,17 +122,14 @@ pub fn read_book(bytes: &[u8]) -> ReadBook
             side = open_side(Stage::InLeft);
         } else {
             let symbol = wide(body);
-            let after = with_node(side, opens(kind, book.arities[symbol]));
-            match after {
-                SideAfter::Open(more) => {
-                    side = more;
-                }
-                SideAfter::LeftWhole(nodes) => {
+            side = with_node(side, opens(kind, book.arities[symbol]));
+            if side.missing == 0 {
+                let nodes = side.nodes;
+                if left_open(side) {
                     book.left_nodes[rules] = nodes;
                     book.right_at[rules] = at;
                     side = open_side(Stage::InRight);
-                }
-                SideAfter::RightWhole(nodes) => {
+                } else {
                     book.right_nodes[rules] = nodes;
                     book.rules = rules + 1;
                     side = no_side(Stage::RuleWhole);

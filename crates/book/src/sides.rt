@@ -1,7 +1,7 @@
 // The side of a rule that is being read: how many of its subterms are missing, and how many nodes came.
 ghost use mathlib.Core.Path.{_≡_};
 ghost use Prim.Native.Nat.{_<_, _≤_};
-ghost use Rattle.book.specs.Sides.{sideOpen, noRuleYet, noSide, opened, withNode};
+ghost use Rattle.book.specs.Sides.{sideOpen, noRuleYet, leftOpen, noSide, opened, withNode};
 
 // Where the reading of a book stands: the left side is open from the start of its rule on, the right side as soon as the left is whole,
 // and none once the right is whole.
@@ -18,13 +18,6 @@ pub struct Side {
     pub stage: Stage,
     pub missing: usize,
     pub nodes: usize,
-}
-
-// A side behind one more node: it is still open, or it is whole and has so many nodes.
-pub enum SideAfter {
-    Open(Side),
-    LeftWhole(usize),
-    RightWhole(usize),
 }
 
 // Whether a side is open.
@@ -73,8 +66,19 @@ pub fn open_side(stage: Stage) -> Side
     }
 }
 
-// One node more, which opens so many subterms. A side from which none is missing is whole.
-pub fn with_node(side: Side, opens: usize) -> SideAfter
+// Whether the side is a left one.
+pub fn left_open(side: Side) -> bool
+    ensures { λ r. ⌜ r ≡ leftOpen (side .stage) ⌝ }
+{
+    let stage = side.stage;
+    match stage {
+        Stage::InLeft => true,
+        _ => false,
+    }
+}
+
+// One node more, which opens so many subterms.
+pub fn with_node(side: Side, opens: usize) -> Side
     requires { ⌜ 0 < side .missing ⌝ }
     requires { ⌜ side .missing ≤ 65536 ⌝ }
     requires { ⌜ side .nodes ≤ 65536 ⌝ }
@@ -82,17 +86,9 @@ pub fn with_node(side: Side, opens: usize) -> SideAfter
     ensures { λ r. ⌜ r ≡ withNode side opens ⌝ }
 {
     let stage = side.stage;
-    let missing = side.missing - 1 + opens;
-    let nodes = side.nodes + 1;
-    if missing != 0 {
-        return SideAfter::Open(Side {
-            stage,
-            missing,
-            nodes,
-        });
-    }
-    match stage {
-        Stage::InLeft => SideAfter::LeftWhole(nodes),
-        _ => SideAfter::RightWhole(nodes),
+    Side {
+        stage,
+        missing: side.missing - 1 + opens,
+        nodes: side.nodes + 1,
     }
 }
