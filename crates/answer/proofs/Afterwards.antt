@@ -29,20 +29,20 @@ use Rattle.order.proofs.SameRanks.{all-decrease-same}
 use Rattle.clauses.specs.Cnf.{Literal, Assignment}
 use Rattle.clauses.specs.Numbering.{ranksOf}
 use Rattle.clauses.specs.Blocks.{«V»}
-use Rattle.answer.specs.Lines.{readAnswer}
-use Rattle.answer.specs.Ranks.{valued, ranksChecked, answered, ranksFromAnswer}
-use Rattle.answer.specs.Marks.{tableOf, assigned}
-use Rattle.answer.specs.AnswerRead.{ReadAs}
+use Rattle.answer_lines.specs.Lines.{readAnswer}
+use Rattle.answer_lines.specs.Values.{valued}
+use Rattle.answer.specs.Ranks.{ranksChecked, answered, ranksFromAnswer}
+use Rattle.answer_lines.specs.Marks.{tableOf, assigned}
+use Rattle.answer_lines.specs.AnswerRead.{ReadAs}
 use Rattle.answer.specs.PaddedRanks.{paddedRanks}
 use Rattle.answer.specs.Answered.{answeredMeaning, acceptedOf}
 use Rattle.answer.specs.declared.Answered.{Answered}
 use Rattle.answer.specs.declared.Answered.the-variants.{Accepted, Refused}
-use Rattle.answer.specs.declared.lines.Verdict.{Verdict}
-use Rattle.answer.specs.declared.lines.Verdict.the-variants as Verdicts
-use Rattle.answer.proofs.Marks.{assigned-valued}
+use Rattle.answer_lines.specs.declared.Verdict.{Verdict}
+use Rattle.answer_lines.specs.declared.Verdict.the-variants as Verdicts
+use Rattle.answer_lines.proofs.Marks.{assigned-valued}
 use Rattle.answer.proofs.RanksAgree.{ranks-agree}
-use Rattle.answer.proofs.Checked.{length-ranksOf}
-use Rattle.answer.proofs.PaddedRanks.{same-padded}
+use Rattle.answer.proofs.PaddedRanks.{length-ranksOf, same-padded}
 
 -- What the contract asks of an answer and of the lent buffer, for the reply x on paper.
 abbrev pub AnsweredAs : Reply (List ℕ) → (buffer : List ℕ) → Answered → (after : List ℕ) → Type 0
@@ -164,7 +164,7 @@ module _ (book : Book) (text buffer : List ℕ) where
       unfolding _>>=_
       answer-refused why e =
           let so : readAnswer variables (n * k) text ≡ refused (numbered why) =
-          subst (λ (v : Verdict). ReadAs (readAnswer variables (n * k) text) v table) e read in
+          subst (λ (v : Verdict). ReadAs (readAnswer variables (n * k) text) v table) e read .0 in
           as-refused buffer why (as-read ∙ ap behind so)
 
       -- Literals that leave these marks have the values that the marks tell.

@@ -1,13 +1,4 @@
 pub mod Cases
-pub mod Checked
-pub mod Marks
-pub mod Naming
-pub mod Stages
-pub mod OneWord
-pub mod ValueLine
-pub mod OneLine
-pub mod LineKinds
-pub mod AllLines
 pub mod RanksAgree
 pub mod RankSums
 pub mod PaddedRanks

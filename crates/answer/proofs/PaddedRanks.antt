@@ -5,13 +5,18 @@ use mathlib.Core.Path.{_≡_, refl, sym, ap, _∙_}
 use native.Mathlib.Numerals.{add-one}
 use native.Mathlib.Nat.{suc-mul, mul-le-mul-right}
 use native.Mathlib.Omega.{arith}
-use lib.ListN.{getD, set, replicate}
+use lib.ListN.{length, getD, set, replicate, length-map}
 use lib.Seq.{set-at}
 use Rattle.order.specs.SameRanks.{SameRanks}
 use Rattle.clauses.specs.Cnf.{Assignment}
 use Rattle.clauses.specs.Numbering.{numbers, rankBelow, ranksOf}
 use Rattle.answer.specs.PaddedRanks.{paddedRanks}
-use Rattle.answer.proofs.Checked.{length-ranksOf}
+use Rattle.clauses.proofs.Lists.{numbers-length}
+
+-- One rank for each symbol.
+pub length-ranksOf : (n k : ℕ) (α : Assignment) → length (ranksOf n k α) ≡ n
+unfolding ranksOf
+length-ranksOf n k α = length-map (numbers 0 n) (λ f. rankBelow k α f k) ∙ numbers-length 0 n
 
 -- One rank more.
 ranks-behind :

@@ -10,7 +10,7 @@ use lib.ListN.{getD}
 use borrow.Author.Tests.{eq-eqb, ne-eqb}
 use Rattle.clauses.specs.Numbering.{bit, rankBelow}
 use Rattle.clauses.proofs.Larger.{rankBelow-bound}
-use Rattle.answer.specs.Marks.{assigned}
+use Rattle.answer_lines.specs.Marks.{assigned}
 
 small-power : (b : ℕ) → b ≤ 4 → 2 ^ b ≤ 16
 small-power zero h = omega arith

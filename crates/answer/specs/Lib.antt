@@ -1,9 +1,4 @@
-pub mod Values
-pub mod Lines
 pub mod Ranks
-pub mod Marks
-pub mod Progress
-pub mod AnswerRead
 pub mod PaddedRanks
 pub mod Answered
 pub mod Computing

@@ -1,8 +1,7 @@
 -- From a solver's answer to ranks that were checked.
 use Prim.Native.Nat.{ℕ, _*_}
-use mathlib.Core.Bool.{Bool, true, false, _||_}
-use mathlib.Core.List.{List, [], _∷_}
-use lib.Dec.{leb, eqb}
+use mathlib.Core.List.{List}
+use lib.Dec.{leb}
 use lib.ListN.{length}
 use Rattle.reply.specs.Reply.{Reply, given, refused, unless, _>>_, _>>=_, _at_}
 use Rattle.term.specs.Tables.{rankBits}
@@ -10,16 +9,11 @@ use Rattle.book.specs.Book.{Book, symbols}
 use Rattle.book.specs.Reading.{readBook}
 use Rattle.order.specs.Test.{exceeds}
 use Rattle.order.specs.Clearing.{allDecrease}
-use Rattle.clauses.specs.Cnf.{Literal, is, isNot, Assignment}
+use Rattle.clauses.specs.Cnf.{Assignment}
 use Rattle.clauses.specs.Numbering.{ranksOf}
 use Rattle.clauses.specs.Blocks.{«V»}
-use Rattle.answer.specs.Lines.{readAnswer}
-
--- "one not named counts as 0"
-unfoldable pub valued : List Literal → Assignment
-valued [] v = false
-valued (is u ∷ ls) v = eqb u v || valued ls v
-valued (isNot u ∷ ls) v = valued ls v
+use Rattle.answer_lines.specs.Values.{valued}
+use Rattle.answer_lines.specs.Lines.{readAnswer}
 
 -- "9, 8": the ranks of an assignment, once they are checked; `room` is the lent buffer's length.
 unfoldable pub ranksChecked : Book → Assignment → (room : ℕ) → Reply (List ℕ)

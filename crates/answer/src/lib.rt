@@ -1,12 +1,10 @@
-// A solver's answer. The definitions stand in specs/.
-mod lines;
+// The ranks of a solver's answer. The definitions stand in specs/.
 mod ranks;
-mod values;
 
+use answer_lines::Verdict;
+use answer_lines::read_values;
 use book::Book;
 use book::BookVerdict;
-use lines::Verdict;
-use lines::read_values;
 use order::RanksVerdict;
 use ranks::ranks_of;
 use reply::Refusal;
@@ -17,7 +15,7 @@ ghost use Rattle.book.specs.Meaning.{bookAt};
 ghost use Rattle.book.specs.WasRead.{ReadFrom};
 ghost use Rattle.clauses.specs.Blocks.{«V»};
 ghost use Rattle.answer.specs.Ranks.{ranksChecked, answered, ranksFromAnswer};
-ghost use Rattle.answer.specs.Marks.{assigned};
+ghost use Rattle.answer_lines.specs.Marks.{assigned};
 ghost use Rattle.answer.specs.Answered.{answeredMeaning, acceptedOf};
 
 // What comes of an answer: so many ranks accepted, or the refusal.

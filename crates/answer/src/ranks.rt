@@ -2,7 +2,7 @@
 ghost use mathlib.Core.Path.{_≡_};
 ghost use Prim.Native.Nat.{_+_, _*_, _≤_};
 ghost use Rattle.clauses.specs.Numbering.{rankBelow};
-ghost use Rattle.answer.specs.Marks.{assigned};
+ghost use Rattle.answer_lines.specs.Marks.{assigned};
 ghost use Rattle.answer.specs.PaddedRanks.{paddedRanks};
 
 // "The rank of f is the sum of 2^b over its true bits": bit b of symbol f stands at f·k + b.

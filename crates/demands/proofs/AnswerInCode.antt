@@ -15,7 +15,7 @@ use Rattle.book.specs.Book.{Book, symbols}
 use Rattle.book.specs.Reading.{readBook}
 use Rattle.clauses.specs.Blocks.{«V»}
 use Rattle.answer.specs.Ranks.{ranksFromAnswer}
-use Rattle.answer.proofs.Checked.{length-ranksOf}
+use Rattle.answer.proofs.PaddedRanks.{length-ranksOf}
 use Rattle.printed_answer.specs.Decided.{spelled, Decided}
 use Rattle.printed_answer.specs.Usual.{usualAnswer}
 use Rattle.printed_answer.proofs.Decided.{answers-decided}

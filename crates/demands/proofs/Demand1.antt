@@ -22,8 +22,8 @@ use Rattle.order.specs.Clearing.{allDecrease, ranksClear, checkRanks}
 use Rattle.clauses.specs.Cnf.{Literal}
 use Rattle.clauses.specs.Item.{Item, closing, literal, faulty}
 use Rattle.clauses.specs.File.{numberedBlock, blockOf, block}
-use Rattle.answer.specs.Values.{Values, unclosed, closed, variableOf, named, itemAfter, itemsAfter}
-use Rattle.answer.specs.Lines.{Line, comment, verdict, values, noLine, Said, nothing, satisfied, noModel, verdictAfter, valuesAfter, lineAfter, linesAfter, lineOf, whole, readAnswer}
+use Rattle.answer_lines.specs.Values.{Values, unclosed, closed, variableOf, named, itemAfter, itemsAfter}
+use Rattle.answer_lines.specs.Lines.{Line, comment, verdict, values, noLine, Said, nothing, satisfied, noModel, verdictAfter, valuesAfter, lineAfter, linesAfter, lineOf, whole, readAnswer}
 use Rattle.answer.specs.Ranks.{ranksChecked, answered, ranksFromAnswer}
 use Rattle.steps.specs.Run.{ranCleared, run}
 use Rattle.steps.specs.Argument.{partOf, argumentOf, argument}

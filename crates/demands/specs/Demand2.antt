@@ -21,8 +21,9 @@ use Rattle.clauses.specs.Numbering.{ranksOf}
 use Rattle.clauses.specs.Blocks.{«V»}
 use Rattle.clauses.specs.File.{clauseProgram}
 use Rattle.clauses.specs.Dimacs.{readDimacs}
-use Rattle.answer.specs.Lines.{readAnswer}
-use Rattle.answer.specs.Ranks.{valued, ranksFromAnswer}
+use Rattle.answer_lines.specs.Lines.{readAnswer}
+use Rattle.answer_lines.specs.Values.{valued}
+use Rattle.answer.specs.Ranks.{ranksFromAnswer}
 use Rattle.printed_answer.specs.WellFormed.{WellFormed}
 use Rattle.printed_answer.specs.Decided.{Answers, Decided}
 use Rattle.printed_answer.specs.Usual.{usualAnswer}

@@ -22,8 +22,9 @@ use Rattle.order.proofs.Checked.{all-decrease-exactly, refused-at-the-lowest}
 use Rattle.order.proofs.Decides.{exceeds-decides}
 use Rattle.clauses.specs.Cnf.{Literal, Assignment}
 use Rattle.clauses.specs.Blocks.{«V»}
-use Rattle.answer.specs.Lines.{readAnswer}
-use Rattle.answer.specs.Ranks.{valued, ranksChecked, answered, ranksFromAnswer}
+use Rattle.answer_lines.specs.Lines.{readAnswer}
+use Rattle.answer_lines.specs.Values.{valued}
+use Rattle.answer.specs.Ranks.{ranksChecked, answered, ranksFromAnswer}
 use Rattle.answer.proofs.RanksAgree.{ranks-agree}
 use Rattle.printed_answer.specs.NoModel.{SaysNoModel}
 use Rattle.printed_answer.specs.Decided.{Answers, spelled, LowestNotDecreasing, RanksDecided, Decided}

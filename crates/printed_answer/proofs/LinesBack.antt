@@ -15,8 +15,8 @@ use Rattle.reply.proofs.Every.{Every, every-member}
 use Rattle.text.specs.Text.{ascii, sameText, pieces, newline, space, words}
 use Rattle.text.proofs.Words.{same-text}
 use Rattle.clauses.specs.Cnf.{Literal, Assignment}
-use Rattle.answer.specs.Values.{Values, unclosed, closed, itemAfter, itemsAfter}
-use Rattle.answer.specs.Lines.{
+use Rattle.answer_lines.specs.Values.{Values, unclosed, closed, itemAfter, itemsAfter}
+use Rattle.answer_lines.specs.Lines.{
   Line,
   comment,
   verdict,
@@ -37,7 +37,7 @@ use Rattle.answer.specs.Lines.{
   whole,
   readAnswer,
 }
-use Rattle.answer.specs.Ranks.{valued}
+use Rattle.answer_lines.specs.Values.{valued}
 use Rattle.printed_answer.specs.WellFormed.{Remark, Spaced, AnswerLine, remark, literals, ClosingLine, remarkText, spaces, itemText, spacedText, lineText, closingText, remarkTexts, answerLines, Lines, lineLiterals, allLiterals, WellFormed}
 use Rattle.printed_answer.proofs.Spaces.{Gap, gapText, gaps-in}
 use Rattle.printed_answer.proofs.LinesOfText.{NoNewline, lines-of, pieces-no-newline}

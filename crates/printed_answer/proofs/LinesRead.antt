@@ -10,7 +10,7 @@ use Rattle.text.specs.Text.{ascii, sameText, newline, space, words}
 use Rattle.clauses.specs.Cnf.{Literal, is, isNot}
 use Rattle.clauses.specs.Dimacs.{blank}
 use Rattle.clauses.proofs.Items.{literalWord, word-nonempty, word-no-blank}
-use Rattle.answer.specs.Lines.{comment, values, itemLine, lineOf}
+use Rattle.answer_lines.specs.Lines.{comment, values, itemLine, lineOf}
 use Rattle.printed_answer.specs.WellFormed.{
   Remark,
   Spaced,

@@ -16,8 +16,8 @@ use Rattle.reply.proofs.Every.{Every, every-member}
 use Rattle.text.specs.Text.{ascii}
 use Rattle.clauses.specs.Cnf.{Literal, is, Assignment}
 use Rattle.clauses.specs.Item.{Item, closing, literal, faulty, item}
-use Rattle.answer.specs.Values.{Values, unclosed, closed, variableOf, names, named, itemAfter, itemsAfter}
-use Rattle.answer.specs.Ranks.{valued}
+use Rattle.answer_lines.specs.Values.{Values, unclosed, closed, variableOf, names, named, itemAfter, itemsAfter}
+use Rattle.answer_lines.specs.Values.{valued}
 use Rattle.printed_answer.specs.WellFormed.{Spaced, literalText, spaces, itemText, spacedText, timesNamed, Names}
 use Rattle.printed_answer.proofs.Spaces.{Gap, gapText}
 use Rattle.printed_answer.proofs.NumberBack.{closing-back, literal-text-back}

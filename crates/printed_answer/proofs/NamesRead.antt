@@ -13,9 +13,9 @@ use Rattle.reply.proofs.Every.{Every, every-of-members}
 use Rattle.clauses.specs.Cnf.{Literal, is, isNot, Assignment}
 use Rattle.clauses.proofs.Items as Items
 use Rattle.clauses.proofs.Items.{Within, item-literal}
-use Rattle.answer.specs.Values.{unclosed, variableOf, names, named, itemAfter, itemsAfter}
-use Rattle.answer.specs.Ranks.{valued}
-use Rattle.answer.proofs.Naming.{once, other}
+use Rattle.answer_lines.specs.Values.{unclosed, variableOf, names, named, itemAfter, itemsAfter}
+use Rattle.answer_lines.specs.Values.{valued}
+use Rattle.answer_lines.proofs.Naming.{once, other}
 use Rattle.printed_answer.specs.WellFormed.{literalText, timesNamed, Names}
 use Rattle.printed_answer.proofs.LinesRead.{literal-word}
 

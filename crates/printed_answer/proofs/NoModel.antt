@@ -14,8 +14,8 @@ use Rattle.reply.proofs.Every.{Every, every-append}
 use Rattle.text.specs.Text.{ascii, pieces, newline}
 use Rattle.clauses.specs.Cnf.{Literal, Assignment}
 use Rattle.clauses.specs.Item.{Item, closing, literal, faulty, item}
-use Rattle.answer.specs.Values.{Values, unclosed, closed, variableOf, names, named, itemAfter, itemsAfter}
-use Rattle.answer.specs.Lines.{
+use Rattle.answer_lines.specs.Values.{Values, unclosed, closed, variableOf, names, named, itemAfter, itemsAfter}
+use Rattle.answer_lines.specs.Lines.{
   Line,
   comment,
   verdict,
@@ -33,7 +33,7 @@ use Rattle.answer.specs.Lines.{
   whole,
   readAnswer,
 }
-use Rattle.answer.specs.Ranks.{valued}
+use Rattle.answer_lines.specs.Values.{valued}
 use Rattle.printed_answer.specs.WellFormed.{Remark, remarkText, remarkTexts, Lines, WellFormed}
 use Rattle.printed_answer.specs.NoModel.{SaysNoModel}
 use Rattle.printed_answer.specs.Computing.{computing}

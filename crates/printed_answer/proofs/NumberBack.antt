@@ -14,7 +14,7 @@ use Rattle.text.proofs.LastDigit.{decimal-digit, decimal-last}
 use Rattle.text.proofs.Words.{same-text}
 use Rattle.clauses.specs.Cnf.{Literal, is, isNot}
 use Rattle.clauses.specs.Item.{Item, closing, literal, faulty, signed, literalOf, item}
-use Rattle.answer.specs.Values.{variableOf}
+use Rattle.answer_lines.specs.Values.{variableOf}
 use Rattle.printed_answer.specs.WellFormed.{literalText}
 
 -- One more digit behind a number above 0.

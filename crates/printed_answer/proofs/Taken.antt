@@ -8,9 +8,9 @@ use Rattle.reply.specs.Reply.{Refusal, given, _>>=_, _at_}
 use Rattle.text.specs.Text.{ascii}
 use Rattle.reply.proofs.Given.{given-bind}
 use Rattle.clauses.specs.Cnf.{Literal, Assignment}
-use Rattle.answer.specs.Values.{Values, unclosed, closed, itemsAfter}
-use Rattle.answer.specs.Lines.{Said, nothing, satisfied, values, lineOf, valuesAfter, lineAfter, linesAfter, whole, readAnswer}
-use Rattle.answer.specs.Ranks.{valued}
+use Rattle.answer_lines.specs.Values.{Values, unclosed, closed, itemsAfter}
+use Rattle.answer_lines.specs.Lines.{Said, nothing, satisfied, values, lineOf, valuesAfter, lineAfter, linesAfter, whole, readAnswer}
+use Rattle.answer_lines.specs.Values.{valued}
 use Rattle.printed_answer.specs.WellFormed.{
   Remark,
   Spaced,

@@ -20,7 +20,7 @@ use Rattle.clauses.specs.Blocks.{«V»}
 use Rattle.clauses.proofs.Bounds.{variables-at-most}
 use Rattle.clauses.proofs.Numbers.{base-grows}
 use Rattle.clauses.proofs.Numbered.{bits-before-rules}
-use Rattle.answer.specs.Values.{variableOf}
+use Rattle.answer_lines.specs.Values.{variableOf}
 use Rattle.printed_answer.specs.WellFormed.{spacedText, allEnded, allLiterals, timesNamed, Names, WellFormed}
 use Rattle.printed_answer.specs.Usual.{trueLiteral, singly, usual, usualAnswer}
 use Rattle.printed_answer.specs.Computing.{writing}

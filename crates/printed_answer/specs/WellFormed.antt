@@ -9,7 +9,7 @@ use lib.ListN.{replicate}
 use Rattle.text.specs.Decimal.{decimal}
 use Rattle.text.specs.Text.{ascii}
 use Rattle.clauses.specs.Cnf.{Literal, is, isNot, Assignment}
-use Rattle.answer.specs.Values.{variableOf}
+use Rattle.answer_lines.specs.Values.{variableOf}
 
 -- "Lines starting with c": the bytes behind the c, none of them a newline.
 pub record Remark : Type 0 where

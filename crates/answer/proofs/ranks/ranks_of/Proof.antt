@@ -2,7 +2,7 @@
 use Prim.Native.Nat.{_-_, _≤_}
 use mathlib.Core.Path.{_≡_}
 use native.Mathlib.Omega.{arith}
-use Rattle.answer.specs.Marks.{assigned}
+use Rattle.answer_lines.specs.Marks.{assigned}
 use Rattle.answer.specs.PaddedRanks.{paddedRanks}
 use Rattle.answer.proofs.PaddedRanks.{no-ranks, next-rank, all-ranks, bits-within}
 use Rattle.answer.proofs.ranks.ranks_of.Statement.{statement}
