@@ -25,8 +25,6 @@ use Rattle.demands.specs.Demand2.{rankBitsOf, SatisfiableExactlyIfCleare
 use Rattle.demands.specs.InCode.{InCode, AsDefined}
 use Rattle.demands.specs.AnswerInCode.{RanksLaid, AnswersInCode}
 use Rattle.demands.proofs.Demand2.{demand2, ranks-precede}
-use Rattle.demands.proofs.Functions.{ranksFromAnswerInCode}
-use Rattle.demands.proofs.AsDefined.{ranks-from-answer-as-defined}
 
 -- The same decision, told by another reply that refuses alike and accepts the same ranks.
 module _
@@ -119,7 +117,7 @@ module _ (code : InCode ranksOfAnAnswer) (as-defined : AsDefined code) where
         given-so
         (answers-decided bytes text room book read)
 
-  answers : AnswersInCode code
+  pub answers : AnswersInCode code
   unfolding SatisfiableExactlyIfCleared UsualAnswersAreAccepted rankBitsOf
   answers = record {
     decided = λ call bytes text room book asked read. decided-so call bytes text room asked book read;
@@ -136,6 +134,3 @@ module _ (code : InCode ranksOfAnAnswer) (as-defined : AsDefined code) where
               ∙ ap (λ (n : ℕ). given n) (length-ranksOf (symbols book) (rankBits (symbols book)) α),
         );
   }
-
-pub answers-in-code : AnswersInCode ranksFromAnswerInCode
-answers-in-code = answers ranksFromAnswerInCode ranks-from-answer-as-defined

@@ -8,7 +8,7 @@ use Rattle.steps.specs.Run.{ranBytes}
 use Rattle.rewriting.specs.RunMeaning.{runTold}
 use Rattle.demands.specs.EntryPoints.{Bytes, answer, bufferAfter}
 use Rattle.demands.specs.InCode.{AsDefined}
-use Rattle.demands.proofs.Functions.{readBookInCode, writeBlockInCode, checkRanksInCode, ranksFromAnswerInCode, runInCode, argumentInCode}
+use Rattle.demands.specs.Functions.{readBookInCode, writeBlockInCode, checkRanksInCode, ranksFromAnswerInCode, runInCode, argumentInCode}
 
 module _ {A : Type 0} where
   -- A reply whose result is told as it is, and one of which nothing is written.
@@ -17,16 +17,16 @@ module _ {A : Type 0} where
   itself (given a) = refl
   itself (refused r) = refl
 
-  nothing-written : (reply : Reply A) → _≡_ {A = Bytes} [] (laid (_>>=_ reply (λ a. given [])) [])
+  pub nothing-written : (reply : Reply A) → _≡_ {A = Bytes} [] (laid (_>>=_ reply (λ a. given [])) [])
   unfolding _>>=_ laid
   nothing-written (given a) = refl
   nothing-written (refused r) = refl
 
 -- Bytes that are written as they are, and counted.
-itself-written : (reply : Reply Bytes) (buffer : Bytes) → laid reply buffer ≡ laid (_>>=_ reply (λ bytes. given bytes)) buffer
+pub itself-written : (reply : Reply Bytes) (buffer : Bytes) → laid reply buffer ≡ laid (_>>=_ reply (λ bytes. given bytes)) buffer
 itself-written reply buffer = ap (λ (x : Reply Bytes). laid x buffer) (itself reply)
 
-told-by-length : (reply : Reply Bytes) → lengthOf reply ≡ _>>=_ reply (λ bytes. given (length bytes))
+pub told-by-length : (reply : Reply Bytes) → lengthOf reply ≡ _>>=_ reply (λ bytes. given (length bytes))
 unfolding lengthOf _>>=_
 told-by-length (given bytes) = refl
 told-by-length (refused r) = refl

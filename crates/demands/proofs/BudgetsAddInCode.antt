@@ -17,8 +17,6 @@ use Rattle.demands.specs.InCode.{InCode, AsDefined}
 use Rattle.demands.specs.BudgetsAdd.{BudgetsAddInCode}
 use Rattle.demands.proofs.Demand3.{Accepted, accepted}
 use Rattle.demands.proofs.BudgetsAdd.{goes-on, with-more}
-use Rattle.demands.proofs.Functions.{runInCode}
-use Rattle.demands.proofs.AsDefined.{run-as-defined}
 use Rattle.demands.proofs.RunInCode.{told-so, laid-so, ran-as}
 
 -- What was laid stands at the start.
@@ -102,7 +100,7 @@ module _ (code : InCode aRun) (as-defined : AsDefined code) where
               ∙ sym (leaves second bytes ranks (recordBytes (ran .reached)) b room″ asked-so next second-so (toldOf next) refl),
         )
 
-  adds : BudgetsAddInCode code
+  pub adds : BudgetsAddInCode code
   adds = record {
     ended = λ first whole bytes ranks record′ a b room room′ told asked asked-whole roomy answered not-spent.
         let (ran, ran-so, tells) = ran-as code as-defined first bytes ranks record′ a room asked told answered in
@@ -111,6 +109,3 @@ module _ (code : InCode aRun) (as-defined : AsDefined code) where
         let (ran, ran-so, tells) = ran-as code as-defined first bytes ranks record′ a room asked told answered in
         went-on-so first whole bytes ranks record′ a b room room′ told asked asked-whole roomy answered ran ran-so tells second room″ is-spent asked-second roomy′;
   }
-
-pub budgets-add-in-code : BudgetsAddInCode runInCode
-budgets-add-in-code = adds runInCode run-as-defined

@@ -4,14 +4,33 @@ use Prim.Native.Nat.{ℕ, zero, suc, _+_, _*_}
 use mathlib.Core.Bool.{Bool, true, false, _&&_, _||_}
 use mathlib.Core.List.{List, [], _∷_, List·Memᴰ, List·Memᴰ·head, List·Memᴰ·tail}
 use mathlib.Core.Option.{Option, none, some}
-use mathlib.Core.Path.{_≡_, refl, ap}
+use mathlib.Core.Path.{_≡_, refl, sym, ap, subst}
 use lib.Dec.{T, leb, eqb, eqb→eq}
 use lib.ListN.{length, getD}
 use Rattle.reply.specs.Reply.{Refusal, Attempt, Reply, given, refused, unless, toldAs, _>>_, _>>=_, _at_}
 use Rattle.reply.specs.Refusals.{numbered}
+use Rattle.reply.specs.declared.Refusal.{Refusal as Named}
+use Rattle.reply.specs.declared.Refusal.the-variants.{
+  BookEnded,
+  UnknownKind,
+  NotAllowed,
+  BadBody,
+  TooMany,
+  AfterEnd,
+  WrongRankCount,
+  NotDecreasing,
+  ShortBuffer,
+  NoSuchBlock,
+  BadRecord,
+  AnswerTooLong,
+  BadAnswer,
+  NoModel,
+  NoSuchArgument,
+}
 use Rattle.reply.specs.Lent.{laid}
 use Rattle.term.specs.Term.{Term, Args, var, app, nil, cons, size}
-use Rattle.reply.proofs.Tests.{and-left, and-right}
+use Rattle.reply.proofs.Tests.{and-left, and-right, passed}
+use Rattle.reply.proofs.Every.{every-member}
 use Rattle.book.specs.Book.{Book, Rule}
 use Rattle.book.specs.Reading.{readBook}
 use Rattle.record.specs.Record.{faultRefusal, refusalOf, readRecord}
@@ -27,14 +46,14 @@ use Rattle.answer_lines.specs.Lines.{Line, comment, verdict, values, noLine, Sa
 use Rattle.answer.specs.Ranks.{ranksChecked, answered, ranksFromAnswer}
 use Rattle.steps.specs.Run.{ranCleared, run}
 use Rattle.steps.specs.Argument.{partOf, argumentOf, argument}
-use Rattle.demands.specs.EntryPoints.{Bytes, EntryPoint, bufferAfter, readingABook, aBlock, checkingRanks, ranksOfAnAnswer, aRun, anArgument, entryPoints}
-use Rattle.demands.specs.Demand1.{ResultOrRefusal, Demanded, Demand1}
+use Rattle.demands.specs.EntryPoints.{Bytes, EntryPoint, answer, bufferAfter, readingABook, countingABook, aBlock, checkingRanks, ranksOfAnAnswer, aRun, anArgument, entryPoints}
+use Rattle.demands.specs.Demand1.{InTable, ResultOrRefusal, Demanded, Demand1}
 use Rattle.demands.proofs.Each.{noMore, also, each→}
 
--- A reply that refuses only with these numbers.
+-- A reply that refuses only with these numbers, each as the table has it.
 data Only (numbers : List ℕ) {A : Type 0} : Reply A → Type 0 where
   result : {a : A} → Only numbers (given a)
-  refusal : {r : Refusal} → List·Memᴰ (r .number) numbers → Only numbers (refused r)
+  refusal : {r : Refusal} → List·Memᴰ (r .number) numbers → InTable r → Only numbers (refused r)
 
 -- Numbers among others, by computing: below, `tt` says that a refusal's number is on the list.
 abbrev isAmong : ℕ → List ℕ → Bool
@@ -58,11 +77,83 @@ all-among [] many h n m = elim m [ ]
 all-among (k ∷ few) many h n (List·Memᴰ·head e) = rw e (among k many (and-left (isAmong k many) (areAmong few many) h))
 all-among (k ∷ few) many h n (List·Memᴰ·tail m) = all-among few many (and-right (isAmong k many) (areAmong few many) h) n m
 
+-- The refusals whose rows name a place, and those at 0.
+abbrev placed : List ℕ
+placed = 1 ∷ 2 ∷ 3 ∷ 4 ∷ 5 ∷ 6 ∷ 8 ∷ 13 ∷ []
+
+abbrev unplaced : List ℕ
+unplaced = 7 ∷ 9 ∷ 10 ∷ 11 ∷ 12 ∷ 14 ∷ 15 ∷ []
+
+abbrev isTabled : Refusal → Bool
+isTabled r = isAmong (r .number) placed || (eqb (r .place) 0 && isAmong (r .number) unplaced)
+
+tabled : (row : Named) {r : Refusal} → numbered row ≡ r → InTable r
+tabled row e = record { row = row; tells = e }
+
+placed-row : (number place : ℕ) → List·Memᴰ number placed → InTable (number at place)
+unfolding numbered
+placed-row number place m =
+    every-member (λ n. InTable (n at place)) m (
+      tabled (BookEnded place) refl,
+      (
+        tabled (UnknownKind place) refl,
+        (
+          tabled (NotAllowed place) refl,
+          (
+            tabled (BadBody place) refl,
+            (
+              tabled (TooMany place) refl,
+              (
+                tabled (AfterEnd place) refl,
+                (
+                  tabled (NotDecreasing place) refl,
+                  (tabled (BadAnswer place) refl, tt),
+                ),
+              ),
+            ),
+          ),
+        ),
+      ),
+    )
+
+unplaced-row : (number : ℕ) → List·Memᴰ number unplaced → InTable (number at 0)
+unfolding numbered
+unplaced-row number m =
+    every-member (λ n. InTable (n at 0)) m (
+      tabled WrongRankCount refl,
+      (
+        tabled ShortBuffer refl,
+        (
+          tabled NoSuchBlock refl,
+          (
+            tabled BadRecord refl,
+            (
+              tabled AnswerTooLong refl,
+              (
+                tabled NoModel refl,
+                (tabled NoSuchArgument refl, tt),
+              ),
+            ),
+          ),
+        ),
+      ),
+    )
+
+in-table : (r : Refusal) → T (isTabled r) → InTable r
+in-table r h = go (isAmong (r .number) placed) refl h
+  where
+    go : (b : Bool) → isAmong (r .number) placed ≡ b → T (b || (eqb (r .place) 0 && isAmong (r .number) unplaced)) → InTable r
+    go true e h′ = placed-row (r .number) (r .place) (among (r .number) placed (passed e))
+    go false e h′ =
+        let at0 : r .place ≡ 0 = eqb→eq (r .place) 0 (and-left (eqb (r .place) 0) (isAmong (r .number) unplaced) h′) in
+        subst (λ p. InTable (r .number at p)) (sym at0)
+        (unplaced-row (r .number) (among (r .number) unplaced (and-right (eqb (r .place) 0) (isAmong (r .number) unplaced) h′)))
+
 module _ {A : Type 0} where
   -- The same with more numbers allowed.
   more : {few : List ℕ} {x : Reply A} (many : List ℕ) → T (areAmong few many) → Only few x → Only many x
   more many h result = result
-  more many h (refusal m) = refusal (all-among _ many h _ m)
+  more many h (refusal m t) = refusal (all-among _ many h _ m) t
 
   -- One of two replies, as a test says.
   either :
@@ -74,32 +165,34 @@ module _ {A : Type 0} where
   only→result-or-refusal : {numbers : List ℕ} {x : Reply A} → Only numbers x → ResultOrRefusal numbers x
   unfolding ResultOrRefusal
   only→result-or-refusal result = tt
-  only→result-or-refusal (refusal m) = m
+  only→result-or-refusal (refusal m t) = (m, t)
 
 module _ {A B : Type 0} {numbers : List ℕ} where
   -- A question that is asked only of what was given.
   after : {first : Reply A} {next : A → Reply B} → Only numbers first → ((a : A) → Only numbers (next a)) → Only numbers (_>>=_ first next)
   unfolding _>>=_
   after result rest = rest _
-  after (refusal m) rest = refusal m
+  after (refusal m t) rest = refusal m t
 
   then : {first : Reply A} {next : Reply B} → Only numbers first → Only numbers next → Only numbers (_>>_ first next)
   unfolding _>>_
   then result rest = rest
-  then (refusal m) rest = refusal m
+  then (refusal m t) rest = refusal m t
 
 module _ {numbers : List ℕ} where
-  unless-only : (b : Bool) (r : Refusal) → List·Memᴰ (r .number) numbers → Only numbers (unless b r)
+  -- A refusal with one of the numbers, as the table has it.
+  refusal-with : {A : Type 0} (r : Refusal) → T (isAmong (r .number) numbers && isTabled r) → Only numbers {A = A} (refused r)
+  refusal-with r h =
+      refusal (among (r .number) numbers (and-left (isAmong (r .number) numbers) (isTabled r) h)) (in-table r (and-right (isAmong (r .number) numbers) (isTabled r) h))
+
+  unless-only : (b : Bool) (r : Refusal) → T (isAmong (r .number) numbers && isTabled r) → Only numbers (unless b r)
   unfolding unless
-  unless-only true r m = result
-  unless-only false r m = refusal m
+  unless-only true r h = result
+  unless-only false r h = refusal-with r h
 
-  -- A test whose refusal has one of the numbers, and the questions behind it.
-  test : {B : Type 0} (b : Bool) (r : Refusal) {next : Reply B} → T (isAmong (r .number) numbers) → Only numbers next → Only numbers (_>>_ (unless b r) next)
-  test b r h rest = then (unless-only b r (among (r .number) numbers h)) rest
-
-  refusal-with : {A : Type 0} (r : Refusal) → T (isAmong (r .number) numbers) → Only numbers {A = A} (refused r)
-  refusal-with r h = refusal (among (r .number) numbers h)
+  -- A test with such a refusal, and the questions behind it.
+  test : {B : Type 0} (b : Bool) (r : Refusal) {next : Reply B} → T (isAmong (r .number) numbers && isTabled r) → Only numbers next → Only numbers (_>>_ (unless b r) next)
+  test b r h rest = then (unless-only b r h) rest
 
 -- Reading a book.
 abbrev reading : List ℕ
@@ -110,7 +203,9 @@ book-only bytes = go (readBook bytes) refl
   where
     go : (x : Reply Book) → readBook bytes ≡ x → Only reading x
     go (given book) e = result
-    go (refused r) e = refusal (read-refuses bytes r e)
+    go (refused r) e =
+        let m = read-refuses bytes r e in
+        refusal m (placed-row (r .number) (r .place) (all-among reading placed tt _ m))
 
 -- A block.
 numbered-only : (found : Option Bytes) → Only (10 ∷ []) (numberedBlock found)
@@ -138,18 +233,18 @@ unfolding checkRanks
 check-only book ranks = after (more _ tt (book-only book)) (λ b. more _ tt (clear-only b ranks))
 
 -- Reading a record.
-fault-number : (fault : RecordFault) → (refusalOf fault) .number ≡ 11
+fault-tells : (fault : RecordFault) → refusalOf fault ≡ (11 at 0)
 unfolding refusalOf faultRefusal numbered
-fault-number (EndedEarly p) = refl
-fault-number (WrongKind p) = refl
-fault-number (NotDeclared p) = refl
-fault-number (TooManyNodes p) = refl
-fault-number (AfterTheTerm p) = refl
+fault-tells (EndedEarly p) = refl
+fault-tells (WrongKind p) = refl
+fault-tells (NotDeclared p) = refl
+fault-tells (TooManyNodes p) = refl
+fault-tells (AfterTheTerm p) = refl
 
 told-only : {A : Type 0} (x : Attempt RecordFault A) → Only (11 ∷ []) (toldAs refusalOf x)
 unfolding toldAs
-told-only (given a) = result
-told-only (refused fault) = refusal (List·Memᴰ·head (fault-number fault))
+told-only {A} (given a) = result
+told-only {A} (refused fault) = subst (λ (r : Refusal). Only (11 ∷ []) {A = A} (refused r)) (sym (fault-tells fault)) (refusal-with _ tt)
 
 term-only : (book : Book) (bytes : Bytes) → Only (11 ∷ []) (readRecord (book .arities) bytes)
 unfolding readRecord
@@ -179,17 +274,20 @@ unfolding argument
 argument-only book record′ i = after (more _ tt (book-only book)) (λ b. after (more _ tt (term-only b record′)) (λ t. more _ tt (argument-of-only t i)))
 
 -- A solver's answer: each line is refused with its own fault, 13 at its start.
-module _ (fault : Refusal) (is13 : List·Memᴰ (fault .number) (13 ∷ [])) (rankVariables : ℕ) where
+module _ (line : ℕ) (rankVariables : ℕ) where
+  abbrev fault : Refusal
+  fault = 13 at line
+
   named-only : (l : Literal) (ls : List Literal) → Only (13 ∷ []) (named fault rankVariables l ls)
   unfolding named
-  named-only l ls = either (leb (variableOf l) rankVariables) (then (unless-only _ fault is13) result) result
+  named-only l ls = either (leb (variableOf l) rankVariables) (then (unless-only _ fault tt) result) result
 
   item-only : (vs : Values) (i : Item) → Only (13 ∷ []) (itemAfter fault rankVariables vs i)
   unfolding itemAfter
-  item-only (closed ls) i = refusal is13
+  item-only (closed ls) i = refusal-with _ tt
   item-only (unclosed ls) closing = result
   item-only (unclosed ls) (literal l) = named-only l ls
-  item-only (unclosed ls) faulty = refusal is13
+  item-only (unclosed ls) faulty = refusal-with _ tt
 
   items-only : (variables : ℕ) (vs : Values) (items : List Bytes) → Only (13 ∷ []) (itemsAfter fault variables rankVariables vs items)
   unfolding itemsAfter
@@ -200,27 +298,27 @@ module _ (fault : Refusal) (is13 : List·Memᴰ (fault .number) (13 ∷ [])) (ra
   unfolding verdictAfter
   verdict-only nothing true = result
   verdict-only nothing false = result
-  verdict-only (satisfied vs) b = refusal is13
-  verdict-only noModel b = refusal is13
+  verdict-only (satisfied vs) b = refusal-with _ tt
+  verdict-only noModel b = refusal-with _ tt
 
   values-only : (variables : ℕ) (said : Said) (items : List Bytes) → Only (13 ∷ []) (valuesAfter fault variables rankVariables said items)
   unfolding valuesAfter
-  values-only variables nothing items = refusal is13
+  values-only variables nothing items = refusal-with _ tt
   values-only variables (satisfied vs) items = after (items-only variables vs items) (λ vs′. result)
-  values-only variables noModel items = refusal is13
+  values-only variables noModel items = refusal-with _ tt
 
   line-only : (variables : ℕ) (said : Said) (line : Line) → Only (13 ∷ []) (lineAfter fault variables rankVariables said line)
   unfolding lineAfter
   line-only variables said comment = result
   line-only variables said (verdict b) = verdict-only said b
   line-only variables said (values items) = values-only variables said items
-  line-only variables said noLine = refusal is13
+  line-only variables said noLine = refusal-with _ tt
 
 lines-only : (variables rankVariables p : ℕ) (said : Said) (lines : List Bytes) → Only (13 ∷ []) (linesAfter variables rankVariables p said lines)
 unfolding linesAfter
 lines-only variables rankVariables p said [] = result
 lines-only variables rankVariables p said (line ∷ lines) =
-    after (line-only (13 at p) (List·Memᴰ·head refl) rankVariables variables said (lineOf line))
+    after (line-only p rankVariables variables said (lineOf line))
     (λ said′. lines-only variables rankVariables (p + length line + 1) said′ lines)
 
 whole-only : (len : ℕ) (said : Said) → Only (13 ∷ 14 ∷ []) (whole len said)
@@ -247,8 +345,21 @@ refusal-leaves e asked buffer r p = ap (λ (x : Reply (e .Result)). laid (_>>=_ 
 demanded : (e : EntryPoint) → ((asked : e .Asked) → Only (e .numbers) (e .reply asked)) → Demanded e
 demanded e only = record { replies = λ asked. only→result-or-refusal (only asked); untouched = refusal-leaves e }
 
+-- What is told of a result is refused exactly as the result is.
+told-replies : {A B : Type 0} (told : A → B) (numbers : List ℕ) (reply : Reply A) → ResultOrRefusal numbers reply → ResultOrRefusal numbers (_>>=_ reply (λ a. given (told a)))
+unfolding ResultOrRefusal _>>=_
+told-replies told numbers (given a) ok = tt
+told-replies told numbers (refused r) ok = ok
+
+pub answer-replies : (e : EntryPoint) → Demanded e → (asked : e .Asked) → ResultOrRefusal (e .numbers) (answer e asked)
+unfolding answer
+answer-replies e demanded asked = told-replies (e .told) (e .numbers) (e .reply asked) (demanded .replies asked)
+
 pub book-demanded : Demanded readingABook
 book-demanded = demanded readingABook book-only
+
+pub counts-demanded : Demanded countingABook
+counts-demanded = demanded countingABook book-only
 
 pub block-demanded : Demanded aBlock
 block-demanded = demanded aBlock (λ asked. block-only (asked .0) (asked .1) (asked .2))

@@ -1,8 +1,8 @@
 -- What holds of each entry of a list. Assumes nothing.
 use mathlib.Core.List.{List, [], _∷_, List·Memᴰ, List·Memᴰ·head, List·Memᴰ·tail}
 
-module _ {A : Type 1} (P : A → Type 0) where
-  pub data Each : List A → Type 1 where
+module _ {ℓ κ} {A : Type ℓ} (P : A → Type κ) where
+  pub data Each : List A → Type (ℓ ⊔ κ) where
     noMore : Each []
     also : {a : A} {as′ : List A} → P a → Each as′ → Each (a ∷ as′)
 

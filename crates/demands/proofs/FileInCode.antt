@@ -1,9 +1,13 @@
 -- Demand 2 of the running code's `write_block`: what calls left behind, block by block, is what the definition has from that number on.
 -- Assumes nothing.
-use Prim.Native.Nat.{ℕ, _<_, _≤_}
+use Prim.Native.Nat.{ℕ, zero, suc, _+_, _<_, _≤_}
+use native.Mathlib.Omega.{arith}
+use mathlib.Core.Bool.{Bool, true, false}
 use mathlib.Core.List.{[], _++_, flatten}
 use mathlib.Core.Option.{Option, none, some}
-use mathlib.Core.Path.{_≡_, sym, ap, ap₂, subst, _∙_}
+use mathlib.Core.Path.{_≡_, refl, sym, ap, ap₂, subst, _∙_}
+use borrow.Author.Tests.{leb-true, leb-false}
+use lib.Dec.{leb}
 use lib.ListN.{length, take, drop, getD, getElem?, drop-of-length-le}
 use lib.Seq.{drop-cons, take-append-seam}
 use Rattle.reply.specs.Reply.{Reply, given, refused, _>>=_, _at_}
@@ -21,8 +25,7 @@ use Rattle.demands.specs.InCode.{InCode, AsDefined}
 use Rattle.demands.specs.FileInCode.{MadeFrom, noBlock, aBlockThen, FileInCode}
 use Rattle.demands.proofs.Demand2.{demand2}
 use Rattle.demands.proofs.Demand1InCode.{refused-too}
-use Rattle.demands.proofs.Functions.{writeBlockInCode}
-use Rattle.demands.proofs.AsDefined.{write-block-as-defined}
+use Rattle.demands.proofs.Ends.{Asks}
 
 -- A block that was given is the one of its number.
 numbered : (found : Option Bytes) (text : Bytes) → numberedBlock found ≡ given text → found ≡ some text
@@ -89,13 +92,31 @@ module _ (code : InCode aBlock) (as-defined : AsDefined code) (bytes : Bytes) (b
       ∙ ap₂ (λ (x y : Bytes). x ++ y) (start ∙ here) (made-so more)
       ∙ sym (ap flatten (drop-cons (fileBlocks book) number [] (element-within (fileBlocks book) number is)))
 
+  -- With calls that lend 512 bytes a file is made, block by block: from a number on, if one is made from the next number on.
+  made-from-here :
+      (call : code .Call) (number : ℕ) → code .asked call ≡ (bytes, number, 512) → (past : Bool) → leb (length (fileBlocks book)) number ≡ past →
+      (file : Bytes) × MadeFrom code bytes (suc number) file → (file : Bytes) × MadeFrom code bytes number file
+  made-from-here call number asked true e later = ([], noBlock call asked (behind-so call number 512 asked (leb-true _ _ e)))
+  made-from-here call number asked false e later =
+      let (many, given-so) = there-so call number 512 asked (omega arith) (leb-false _ _ e) in
+      (take many (code .after call) ++ later .0, aBlockThen call asked given-so (later .1) refl)
+
+  made-from : Asks code → (fuel number : ℕ) → length (fileBlocks book) ≤ fuel + number → (file : Bytes) × MadeFrom code bytes number file
+  made-from asks zero number past =
+      let (call, asked) = asks (bytes, number, 512) in
+      ([], noBlock call asked (behind-so call number 512 asked (omega arith)))
+  made-from asks (suc fuel) number past =
+      let (call, asked) = asks (bytes, number, 512) in
+      made-from-here call number asked (leb (length (fileBlocks book)) number) refl (made-from asks fuel (suc number) (omega arith))
+
   prints-so : (file : Bytes) → MadeFrom code bytes 0 file → file ≡ clauseProgram bytes
   unfolding clauseProgram fileBytes printed
   prints-so file made = made-so made ∙ sym (ap printed read)
 
-files : (code : InCode aBlock) → AsDefined code → FileInCode code
+pub files : (code : InCode aBlock) → AsDefined code → Asks code → FileInCode code
 unfolding SatisfiableExactlyIfCleared RankBitsClear ClearingRanksExtend
-files code as-defined = record {
+files code as-defined asks = record {
+  made = λ bytes book read. made-from code as-defined bytes book read asks (length (fileBlocks book)) 0 (omega arith);
   prints = λ bytes book file read made. prints-so code as-defined bytes book read file made;
   answersEach = λ call bytes number room book asked read roomy. (
     there-so code as-defined bytes book read call number room asked roomy,
@@ -108,6 +129,3 @@ files code as-defined = record {
   ranksExtend = λ bytes book file ranks read made many fit clears.
       rw (prints-so code as-defined bytes book read file made) (demand2 .ranksExtend bytes book ranks read many fit clears);
 }
-
-pub file-in-code : FileInCode writeBlockInCode
-file-in-code = files writeBlockInCode write-block-as-defined

@@ -8,16 +8,12 @@ use Rattle.order.proofs.Checked.{accepted-exactly}
 use Rattle.demands.specs.EntryPoints.{answer, checkingRanks}
 use Rattle.demands.specs.InCode.{InCode, AsDefined}
 use Rattle.demands.specs.RanksInCode.{AcceptedInCode}
-use Rattle.demands.proofs.Functions.{checkRanksInCode}
-use Rattle.demands.proofs.AsDefined.{itself, check-ranks-as-defined}
+use Rattle.demands.proofs.AsDefined.{itself}
 
-accepted-so : (code : InCode checkingRanks) → AsDefined code → AcceptedInCode code
+pub accepted-so : (code : InCode checkingRanks) → AsDefined code → AcceptedInCode code
 unfolding AcceptedInCode answer
 accepted-so code as-defined call bytes ranks book asked read =
     let so : code .answered call ≡ checkRanks bytes ranks =
     as-defined .answers call ∙ ap (answer checkingRanks) asked ∙ sym (itself (checkRanks bytes ranks))
     in
     Iff·trans (λ e. sym so ∙ e, λ e. so ∙ e) (accepted-exactly bytes book ranks read)
-
-pub check-ranks-in-code : AcceptedInCode checkRanksInCode
-check-ranks-in-code = accepted-so checkRanksInCode check-ranks-as-defined

@@ -19,8 +19,6 @@ use Rattle.demands.specs.InCode.{InCode, AsDefined}
 use Rattle.demands.specs.RunInCode.{Yielded, RunYieldsInCode, NeverSpentInCode, NotRefusedInCode}
 use Rattle.demands.proofs.Demand2.{demand2}
 use Rattle.demands.proofs.Demand3.{demand3}
-use Rattle.demands.proofs.Functions.{runInCode}
-use Rattle.demands.proofs.AsDefined.{run-as-defined}
 
 module _ (code : InCode aRun) (as-defined : AsDefined code) where
   module _ (call : code .Call) (bytes ranks record′ : Bytes) (budget room : ℕ) (asked : code .asked call ≡ (bytes, ranks, record′, budget, room)) where
@@ -60,31 +58,22 @@ module _ (code : InCode aRun) (as-defined : AsDefined code) where
           holds = laid-so ran ran-so;
         }
 
-  yields : RunYieldsInCode code
+  pub yields : RunYieldsInCode code
   unfolding RunYieldsInCode
   yields call bytes ranks record′ budget room book t told asked read recorded e =
       let (ran, ran-so, tells) = ran-as call bytes ranks record′ budget room asked told e in
       subst (λ (x : Told). Yielded book t budget x (code .before call) (code .after call)) tells
       (yielded call bytes ranks record′ budget room asked book t read recorded ran ran-so)
 
-  never-spent : NeverSpentInCode code
+  pub never-spent : NeverSpentInCode code
   unfolding NeverSpentInCode NeverSpent toldOf
   never-spent call bytes ranks record′ budget room book t N told asked read recorded bounds enough e =
       let (ran, ran-so, tells) = ran-as call bytes ranks record′ budget room asked told e in
       subst (λ (x : Told). (x .outcome ≡ done) ⊎ (x .outcome ≡ tooLarge)) tells
       (demand3 .neverSpent bytes ranks record′ budget room book t N ran read recorded bounds enough ran-so)
 
-  not-refused : NotRefusedInCode code
+  pub not-refused : NotRefusedInCode code
   unfolding NotRefusedInCode NotRefused
   not-refused call bytes ranks record′ budget room book t asked read accepted recorded roomy =
       let (ran, ran-so) = demand3 .notRefused bytes ranks record′ budget room book t read accepted recorded roomy in
       (toldOf ran, told-so call bytes ranks record′ budget room asked ran ran-so)
-
-pub run-yields-in-code : RunYieldsInCode runInCode
-run-yields-in-code = yields runInCode run-as-defined
-
-pub run-never-spent-in-code : NeverSpentInCode runInCode
-run-never-spent-in-code = never-spent runInCode run-as-defined
-
-pub run-not-refused-in-code : NotRefusedInCode runInCode
-run-not-refused-in-code = not-refused runInCode run-as-defined

@@ -17,6 +17,7 @@ pub record RanksLaid (code : InCode ranksOfAnAnswer) (call : code .Call) (ranks 
   pub counted : code .answered call ≡ given (length ranks)
   pub holds : code .after call ≡ laid (given ranks) (code .before call)
 
+-- What demand 2 says of an answer, of every call, whatever the solver printed.
 pub record AnswersInCode (code : InCode ranksOfAnAnswer) : Type 1 where
   -- "Ranks are accepted exactly if they make every rule decrease, whichever solver proposed them", and then they are written.
   pub decided :

@@ -150,6 +150,7 @@ OwnStepIsFree =
     (rules : List Rule) (s : Term) →
     ((t : Term) → stepOf rules s ≡ some t → Step rules s t) × ((stepOf rules s ≡ none) ↔ ((t : Term) → Step rules s t → ⊥))
 
+-- Demand 2, of the definitions: each of its sentences, and what a reader could doubt behind it.
 pub record Demand2 : Type 1 where
   pub books : BooksAreRead
   pub records : RecordsAreRead

@@ -47,6 +47,7 @@ AcceptedRanksRest =
     (bytes ranks : Bytes) (book : Book) (t : Term) → readBook bytes ≡ given book → checkRanks bytes ranks ≡ given tt →
     T (over (book .arities) t) → T (variableFree t) → (N : ℕ) × Bounds (book .rules) t N
 
+-- Demand 3, of the definitions: of a book that is cleared, by whatever strict precedence, and so by ranks that are accepted.
 pub record Demand3 : Type 1 where
   pub comesToRest : ComesToRest
   pub acceptedRanks : AcceptedRanksRest

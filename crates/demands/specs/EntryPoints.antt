@@ -4,11 +4,11 @@ use mathlib.Core.List.{List, [], _∷_}
 use lib.ListN.{length}
 use Rattle.reply.specs.Reply.{Reply, given, refused, _>>=_}
 use Rattle.reply.specs.Lent.{laid}
-use Rattle.book.specs.Book.{Book}
+use Rattle.book.specs.Book.{Book, symbols}
 use Rattle.book.specs.Reading.{readBook}
 use Rattle.record.specs.Record.{recordBytes}
 use Rattle.order.specs.Clearing.{checkRanks}
-use Rattle.clauses.specs.File.{block}
+use Rattle.clauses.specs.File.{block, fileBlocks}
 use Rattle.answer.specs.Ranks.{ranksFromAnswer}
 use Rattle.steps.specs.Run.{Ran, run}
 use Rattle.rewriting.specs.RunMeaning.{Told, toldOf}
@@ -122,5 +122,33 @@ anArgument =
       told = λ part. part;
     }
 
+-- The six entry points.
 unfoldable pub entryPoints : List EntryPoint
 entryPoints = readingABook ∷ aBlock ∷ checkingRanks ∷ ranksOfAnAnswer ∷ aRun ∷ anArgument ∷ []
+
+-- What C is told of a book that was read: how many symbols and rules it has, and how many blocks its clause file has. The rules themselves stand in
+-- the bytes that C handed over.
+pub record Counts : Type 0 where
+  pub symbols : ℕ
+  pub rules : ℕ
+  pub blocks : ℕ
+
+unfoldable pub countsOf : Book → Counts
+countsOf book = record { symbols = symbols book; rules = length (book .rules); blocks = length (fileBlocks book) }
+
+-- A book, as C is told of it.
+abbrev pub countingABook : EntryPoint
+countingABook =
+    record {
+      Asked = Bytes;
+      Result = Book;
+      reply = readBook;
+      numbers = 1 ∷ 2 ∷ 3 ∷ 4 ∷ 5 ∷ 6 ∷ [];
+      written = λ book. [];
+      Answer = Counts;
+      told = countsOf;
+    }
+
+-- The six as C calls them.
+unfoldable pub entryPointsOfC : List EntryPoint
+entryPointsOfC = countingABook ∷ aBlock ∷ checkingRanks ∷ ranksOfAnAnswer ∷ aRun ∷ anArgument ∷ []

@@ -27,8 +27,10 @@ pub data MadeFrom (code : InCode aBlock) (bytes : Bytes) : (number : ℕ) → (f
       code .answered call ≡ given many → MadeFrom code bytes (suc number) behind → take many (code .after call) ++ behind ≡ file →
       MadeFrom code bytes number file
 
+-- What demand 2 says of the clause file, of the file that calls make.
 pub record FileInCode (code : InCode aBlock) : Type 1 where
-  -- "The clause program .. prints all blocks".
+  -- A file can be made, and it is the clause file: "prints all blocks".
+  pub made : (bytes : Bytes) (book : Book) → readBook bytes ≡ given book → (file : Bytes) × MadeFrom code bytes 0 file
   pub prints :
       (bytes : Bytes) (book : Book) (file : Bytes) → readBook bytes ≡ given book → MadeFrom code bytes 0 file → file ≡ clauseProgram bytes
   -- With 512 bytes lent no block is refused, and refusal 10 comes exactly behind the last one.
