@@ -4,7 +4,7 @@ use Prim.Native.Nat.{ℕ, _+_}
 use mathlib.Core.Path.{_≡_, sym, ap, subst, _∙_}
 use Rattle.reply.specs.Reply.{Reply, given, refused, _>>=_}
 use Rattle.steps.specs.Argument.{Part, argument}
-use Rattle.rewriting.specs.Asked.{handedOut, partBytes}
+use Rattle.asking.specs.Asked.{handedOut, partBytes}
 use Rattle.demands.specs.EntryPoints.{Bytes, answer, anArgument}
 use Rattle.demands.specs.InCode.{InCode, AsDefined}
 use Rattle.demands.specs.ArgumentInCode.{ArgumentInCode}

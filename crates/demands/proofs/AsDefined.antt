@@ -5,7 +5,7 @@ use lib.ListN.{length}
 use Rattle.reply.specs.Reply.{Reply, given, refused, _>>=_}
 use Rattle.reply.specs.Lent.{laid, lengthOf}
 use Rattle.steps.specs.Run.{ranBytes}
-use Rattle.rewriting.specs.RunMeaning.{runTold}
+use Rattle.running.specs.RunMeaning.{runTold}
 use Rattle.demands.specs.EntryPoints.{Bytes, answer, bufferAfter}
 use Rattle.demands.specs.InCode.{AsDefined}
 use Rattle.demands.specs.Functions.{readBookInCode, writeBlockInCode, checkRanksInCode, ranksFromAnswerInCode, runInCode, argumentInCode}

@@ -10,13 +10,12 @@ use Rattle.reply.specs.Lent.{laid}
 use Rattle.book.specs.Book.{Rule}
 use Rattle.record.specs.Record.{recordBytes}
 use Rattle.steps.specs.Run.{Outcome, done, spent, tooLarge, Ran, runFrom, run}
-use Rattle.rewriting.specs.RunMeaning.{Told, toldOf}
+use Rattle.running.specs.RunMeaning.{Told, toldOf}
 use Rattle.steps.proofs.Run.{after, carriedOn}
+use Rattle.steps.proofs.Accepted.{Accepted, accepted, goes-on, with-more}
 use Rattle.demands.specs.EntryPoints.{Bytes, aRun}
 use Rattle.demands.specs.InCode.{InCode, AsDefined}
 use Rattle.demands.specs.BudgetsAdd.{BudgetsAddInCode}
-use Rattle.demands.proofs.Demand3.{Accepted, accepted}
-use Rattle.demands.proofs.BudgetsAdd.{goes-on, with-more}
 use Rattle.demands.proofs.RunInCode.{told-so, laid-so, ran-as}
 
 -- What was laid stands at the start.

@@ -7,7 +7,8 @@ use Rattle.book.proofs.Settled.{read-book-settled}
 use Rattle.blocks.proofs.Settled.{write-block-settled}
 use Rattle.order.proofs.Settled.{check-ranks-settled}
 use Rattle.answer.proofs.Settled.{ranks-from-answer-settled}
-use Rattle.rewriting.proofs.Settled.{run-settled, argument-reply-settled}
+use Rattle.running.proofs.Settled.{run-settled}
+use Rattle.asking.proofs.Settled.{argument-reply-settled}
 use Rattle.rulebook.proofs.Settled as ForC
 use Rattle.demands.specs.EntryPoints.{EntryPoint, answer, entryPoints, entryPointsOfC}
 use Rattle.demands.specs.Demand1.{ResultOrRefusal, Demanded}

@@ -65,7 +65,8 @@ use Rattle.demands.specs.Demand2.{
   OwnStepIsFree,
   Demand2,
 }
-use Rattle.demands.proofs.Demand3.{clearing-ranks, accepted}
+use Rattle.steps.proofs.Accepted.{accepted}
+use Rattle.demands.proofs.Demand3.{clearing-ranks}
 
 -- A satisfying assignment of the file is one of the book's equations, and the other way round.
 equations-of :

@@ -10,7 +10,7 @@ use lib.ListN.{length}
 use Rattle.reply.specs.Reply.{Reply, given, refused}
 use Rattle.term.specs.Term.{Term, over}
 use Rattle.reply.proofs.Tests.{passed}
-use Rattle.reply.proofs.Given.{refused-not-given, bind-given, given-bind, then-given}
+use Rattle.reply.proofs.Given.{refused-not-given}
 use Rattle.book.specs.Book.{Book, symbols}
 use Rattle.book.specs.Reading.{readBook}
 use Rattle.record.specs.Record.{readRecord}
@@ -31,7 +31,7 @@ use Rattle.steps.specs.Step.{Steps}
 use Rattle.steps.specs.Run.{Outcome, done, spent, tooLarge, Ran, runFrom, ranCleared, run}
 use Rattle.steps.proofs.Bound.{bounded}
 use Rattle.steps.proofs.Run.{never-spent}
-use Rattle.steps.proofs.RanCleared.{then-run}
+use Rattle.steps.proofs.Accepted.{accepted, run-of}
 use Rattle.demands.specs.EntryPoints.{Bytes}
 use Rattle.demands.specs.Demand2.{SomePrecedenceClears}
 use Rattle.demands.specs.Demand3.{Bounds, ComesToRest, AcceptedRanksRest, NeverSpent, NotRefused, Demand3}
@@ -104,32 +104,6 @@ unfolding AcceptedRanksRest
 accepted-ranks-rest bytes ranks book t read accepted o free =
     let cleared : ranksClear book ranks ≡ given tt = sym (check-of-read bytes book ranks read) ∙ accepted in
     ranks-bound book (read-within-limits bytes book read) ranks (ranks-clear-exactly book ranks .0 cleared .1) t o
-
--- What a run that is not refused found: the book, ranks that clear it, and the record, of which it is the run.
-pub record Accepted (bytes ranks record′ : Bytes) (budget : ℕ) (ran : Ran) : Type 0 where
-  pub book : Book
-  pub readable : readBook bytes ≡ given book
-  pub cleared : ranksClear book ranks ≡ given tt
-  pub term : Term
-  pub recorded : readRecord (book .arities) record′ ≡ given term
-  pub runs : runFrom (book .rules) budget 0 term ≡ ran
-
-pub accepted : (bytes ranks record′ : Bytes) (budget room : ℕ) (ran : Ran) → run bytes ranks record′ budget room ≡ given ran → Accepted bytes ranks record′ budget ran
-unfolding run ranCleared
-accepted bytes ranks record′ budget room ran e =
-    let (book, readable, afterBook) = bind-given _ _ _ e in
-    let (cleared, afterRanks) = then-given _ _ _ afterBook in
-    let (term, recorded, afterRecord) = bind-given _ _ _ afterRanks in
-    let (roomy, runs) = then-given _ _ _ afterRecord in
-    record { book = book; readable = readable; cleared = cleared .1; term = term; recorded = recorded; runs = cc }
-
--- What a run is where nothing is refused.
-pub run-of :
-    (bytes ranks record′ : Bytes) (budget room : ℕ) (book : Book) (t : Term) → readBook bytes ≡ given book → ranksClear book ranks ≡ given tt →
-    readRecord (book .arities) record′ ≡ given t → 513 ≤ room → run bytes ranks record′ budget room ≡ given (runFrom (book .rules) budget 0 t)
-unfolding run
-run-of bytes ranks record′ budget room book t readable cleared recorded roomy =
-    given-bind (readBook bytes) _ book readable ∙ then-run book ranks record′ budget room cleared recorded roomy
 
 -- An outcome that is not spent.
 not-spent : (outcome : Outcome) → (outcome ≡ spent → ⊥) → (outcome ≡ done) ⊎ (outcome ≡ tooLarge)

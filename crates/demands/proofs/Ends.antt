@@ -26,12 +26,12 @@ use Rattle.steps.specs.Argument.{Part, argument}
 use Rattle.stepping.specs.Stepped.{outcomeOf}
 use Rattle.stepping.specs.declared.Outcome.{Outcome as Ending}
 use Rattle.stepping.specs.declared.Outcome.the-variants.{Done, Spent, TooLarge}
-use Rattle.rewriting.specs.RunMeaning.{Told, runTold, runMeaning}
-use Rattle.rewriting.specs.Asked.{argumentMeaning, handedOut, partBytes}
-use Rattle.rewriting.specs.declared.running.RunReply.{RunReply}
-use Rattle.rewriting.specs.declared.running.RunReply.the-variants as runs
-use Rattle.rewriting.specs.declared.asking.ArgumentReply.{ArgumentReply}
-use Rattle.rewriting.specs.declared.asking.ArgumentReply.the-variants as parts
+use Rattle.running.specs.RunMeaning.{Told, runTold, runMeaning}
+use Rattle.asking.specs.Asked.{argumentMeaning, handedOut, partBytes}
+use Rattle.running.specs.declared.RunReply.{RunReply}
+use Rattle.running.specs.declared.RunReply.the-variants as runs
+use Rattle.asking.specs.declared.ArgumentReply.{ArgumentReply}
+use Rattle.asking.specs.declared.ArgumentReply.the-variants as parts
 use Rattle.demands.specs.EntryPoints.{Bytes, EntryPoint, answer, aBlock, checkingRanks, ranksOfAnAnswer, aRun, anArgument}
 use Rattle.demands.specs.Demand1.{ResultOrRefusal}
 use Rattle.demands.specs.InCode.{InCode}

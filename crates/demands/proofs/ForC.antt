@@ -17,7 +17,7 @@ use Rattle.clauses.specs.File.{block}
 use Rattle.answer.specs.Ranks.{ranksFromAnswer}
 use Rattle.steps.specs.Run.{Outcome, done, spent, tooLarge, Ran, run, ranBytes}
 use Rattle.steps.specs.Argument.{Part, argument}
-use Rattle.rewriting.specs.RunMeaning.{Told, runTold}
+use Rattle.running.specs.RunMeaning.{Told, runTold}
 use Rattle.rulebook.specs.Replies.{verdictReply, bookReply, writtenReply, outcomeNumber, ranReply, partReply}
 use Rattle.demands.specs.EntryPoints.{Bytes, Counts, countsOf, answer, bufferAfter, countingABook, aBlock, checkingRanks, ranksOfAnAnswer, aRun, anArgument}
 use Rattle.demands.specs.Demand1.{ResultOrRefusal}

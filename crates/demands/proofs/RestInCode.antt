@@ -19,7 +19,8 @@ use Rattle.demands.specs.RanksInCode.{AcceptedInCode}
 use Rattle.demands.specs.RunInCode.{NeverSpentInCode}
 use Rattle.demands.specs.RestInCode.{RestInCode}
 use Rattle.demands.proofs.Demand2.{ranks-precede}
-use Rattle.demands.proofs.Demand3.{demand3, accepted}
+use Rattle.steps.proofs.Accepted.{accepted}
+use Rattle.demands.proofs.Demand3.{demand3}
 use Rattle.demands.proofs.RanksInCode.{accepted-so}
 use Rattle.demands.proofs.AnswerInCode.{answers}
 use Rattle.demands.proofs.RunInCode.{ran-as, never-spent}

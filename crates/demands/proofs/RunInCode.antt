@@ -11,7 +11,7 @@ use Rattle.book.specs.Book.{Book}
 use Rattle.book.specs.Reading.{readBook}
 use Rattle.record.specs.Record.{recordBytes, readRecord}
 use Rattle.steps.specs.Run.{done, tooLarge, Ran, run, ranBytes}
-use Rattle.rewriting.specs.RunMeaning.{Told, toldOf, runTold}
+use Rattle.running.specs.RunMeaning.{Told, toldOf, runTold}
 use Rattle.demands.specs.EntryPoints.{Bytes, answer, bufferAfter, aRun}
 use Rattle.demands.specs.Demand2.{RunYields}
 use Rattle.demands.specs.Demand3.{NeverSpent, NotRefused}

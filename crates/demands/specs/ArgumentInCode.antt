@@ -5,7 +5,7 @@ use mathlib.Core.List.{[]}
 use mathlib.Core.Path.{_≡_}
 use Rattle.reply.specs.Reply.{Refusal, given, refused}
 use Rattle.steps.specs.Argument.{Part}
-use Rattle.rewriting.specs.Asked.{partBytes}
+use Rattle.asking.specs.Asked.{partBytes}
 use Rattle.demands.specs.EntryPoints.{Bytes, anArgument}
 use Rattle.demands.specs.Contracts.{Contract, Handed, Allowed}
 use Rattle.demands.specs.InCode.{InCode}

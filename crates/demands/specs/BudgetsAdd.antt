@@ -5,7 +5,7 @@ use lib.ListN.{take}
 use Rattle.reply.specs.Reply.{Reply, given, _>>=_}
 use Rattle.record.specs.Record.{recordBytes}
 use Rattle.steps.specs.Run.{done, spent, tooLarge, Ran, run}
-use Rattle.rewriting.specs.RunMeaning.{Told}
+use Rattle.running.specs.RunMeaning.{Told}
 use Rattle.demands.specs.EntryPoints.{Bytes, aRun}
 use Rattle.demands.specs.InCode.{InCode}
 

@@ -11,7 +11,7 @@ use Rattle.order.specs.Clearing.{checkRanks}
 use Rattle.clauses.specs.File.{block, fileBlocks}
 use Rattle.answer.specs.Ranks.{ranksFromAnswer}
 use Rattle.steps.specs.Run.{Ran, run}
-use Rattle.rewriting.specs.RunMeaning.{Told, toldOf}
+use Rattle.running.specs.RunMeaning.{Told, toldOf}
 use Rattle.steps.specs.Argument.{Part, argument}
 
 -- Bytes: a book, ranks, a record, a solver's answer, a lent buffer.

@@ -9,7 +9,7 @@ use lib.ListN.{length}
 use Rattle.reply.specs.Reply.{Reply, given, refused, _at_}
 use Rattle.steps.specs.Run.{Outcome, done, spent, tooLarge}
 use Rattle.steps.specs.Argument.{Part}
-use Rattle.rewriting.specs.RunMeaning.{Told}
+use Rattle.running.specs.RunMeaning.{Told}
 use Rattle.rulebook.specs.declared.replies.Verdict.{Verdict}
 use Rattle.rulebook.specs.declared.replies.BookReply.{BookReply}
 use Rattle.rulebook.specs.declared.replies.WrittenReply.{WrittenReply}

@@ -8,8 +8,8 @@ use Rattle.book.specs.Meaning.{meaning}
 use Rattle.order.specs.Meaning.{ranksMeaning}
 use Rattle.blocks.specs.Written.{writtenMeaning}
 use Rattle.answer.specs.Answered.{answeredMeaning}
-use Rattle.rewriting.specs.Asked.{argumentMeaning}
-use Rattle.rewriting.specs.RunMeaning.{runMeaning}
+use Rattle.asking.specs.Asked.{argumentMeaning}
+use Rattle.running.specs.RunMeaning.{runMeaning}
 use Rattle.book.proofs.read_book as read-book
 use Rattle.book.proofs.read_book.Kinds as read-book-kinds
 use Rattle.book.proofs.read_book.Reads as read-book-reads
@@ -26,18 +26,18 @@ use Rattle.answer.proofs.ranks_from_answer as ranks-from-answer
 use Rattle.answer.proofs.ranks_from_answer.Kinds as ranks-from-answer-kinds
 use Rattle.answer.proofs.ranks_from_answer.Reads as ranks-from-answer-reads
 use Rattle.answer.proofs.ranks_from_answer.Symbol as ranks-from-answer-symbol
-use Rattle.rewriting.proofs.running.run as run
-use Rattle.rewriting.proofs.running.run.Kinds as run-kinds
-use Rattle.rewriting.proofs.running.run.Reads as run-reads
-use Rattle.rewriting.proofs.running.run.Symbol as run-symbol
-use Rattle.rewriting.proofs.asking.argument_reply as argument-reply
-use Rattle.rewriting.proofs.asking.argument_reply.Kinds as argument-reply-kinds
-use Rattle.rewriting.proofs.asking.argument_reply.Reads as argument-reply-reads
-use Rattle.rewriting.proofs.asking.argument_reply.Symbol as argument-reply-symbol
-use Rattle.rewriting.proofs.asking.argument as argument
-use Rattle.rewriting.proofs.asking.argument.Kinds as argument-kinds
-use Rattle.rewriting.proofs.asking.argument.Reads as argument-reads
-use Rattle.rewriting.proofs.asking.argument.Symbol as argument-symbol
+use Rattle.running.proofs.run as run
+use Rattle.running.proofs.run.Kinds as run-kinds
+use Rattle.running.proofs.run.Reads as run-reads
+use Rattle.running.proofs.run.Symbol as run-symbol
+use Rattle.asking.proofs.argument_reply as argument-reply
+use Rattle.asking.proofs.argument_reply.Kinds as argument-reply-kinds
+use Rattle.asking.proofs.argument_reply.Reads as argument-reply-reads
+use Rattle.asking.proofs.argument_reply.Symbol as argument-reply-symbol
+use Rattle.asking.proofs.argument as argument
+use Rattle.asking.proofs.argument.Kinds as argument-kinds
+use Rattle.asking.proofs.argument.Reads as argument-reads
+use Rattle.asking.proofs.argument.Symbol as argument-symbol
 use Rattle.demands.specs.EntryPoints.{readingABook, aBlock, checkingRanks, ranksOfAnAnswer, aRun, anArgument}
 use Rattle.demands.specs.Contracts.{Contract}
 use Rattle.demands.specs.InCode.{InCode, byContract, Function}

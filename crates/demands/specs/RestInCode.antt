@@ -9,7 +9,7 @@ use Rattle.book.specs.Book.{Book}
 use Rattle.book.specs.Reading.{readBook}
 use Rattle.record.specs.Record.{readRecord}
 use Rattle.steps.specs.Run.{done, tooLarge}
-use Rattle.rewriting.specs.RunMeaning.{Told}
+use Rattle.running.specs.RunMeaning.{Told}
 use Rattle.demands.specs.EntryPoints.{Bytes, checkingRanks, ranksOfAnAnswer, aRun}
 use Rattle.demands.specs.Demand3.{Bounds}
 use Rattle.demands.specs.InCode.{InCode}

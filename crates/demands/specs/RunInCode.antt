@@ -11,7 +11,7 @@ use Rattle.book.specs.Reading.{readBook}
 use Rattle.record.specs.Record.{recordBytes, readRecord}
 use Rattle.order.specs.Clearing.{checkRanks}
 use Rattle.steps.specs.Run.{done, tooLarge, Yields}
-use Rattle.rewriting.specs.RunMeaning.{Told}
+use Rattle.running.specs.RunMeaning.{Told}
 use Rattle.demands.specs.EntryPoints.{Bytes, aRun}
 use Rattle.demands.specs.Demand3.{Bounds}
 use Rattle.demands.specs.InCode.{InCode}

@@ -41,10 +41,11 @@ unfoldable mutual
   boundInArgs (cons l ls) nil p table = table
   boundInArgs (cons l ls) (cons s ss) p table = boundInArgs ls ss (p + 2 * size s) (boundIn l s p table)
 
--- The table of a left side that fits, and one of a left side that does not.
+-- The table of a left side that fits ..
 abbrev pub tableOf : (left s : Term) (place : ℕ) → Match
 tableOf left s p = boundIn left s p nothingBound
 
+-- .. and the one that says that none does.
 abbrev pub nothingFits : Match
 nothingFits = record { fits = false; starts = replicate 16 0; bound = replicate 16 false }
 

@@ -10,7 +10,7 @@ use Rattle.term.specs.Term.{Term}
 use Rattle.term.specs.At.{At}
 use Rattle.steps.specs.Run.{Outcome, done, spent, tooLarge}
 use Rattle.steps.specs.Argument.{Part}
-use Rattle.rewriting.specs.RunMeaning.{Told}
+use Rattle.running.specs.RunMeaning.{Told}
 use Rattle.term_text.specs.Numbers.{counted, numbersText, hexText}
 use Rattle.term_text.specs.TermText.{termText}
 

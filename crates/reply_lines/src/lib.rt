@@ -1,11 +1,11 @@
 // The lines by which the programs tell replies. Each function lays its text onto the start of the buffer that is lent to it, as far as it
 // fits, and answers how many bytes it laid; a program writes those and nothing else.
 use answer::Answered;
+use asking::ArgumentReply;
 use order::RanksVerdict;
 use reply::Refusal;
-use rewriting::asking::ArgumentReply;
-use rewriting::running::Outcome;
-use rewriting::running::RunReply;
+use running::Outcome;
+use running::RunReply;
 use term_text::terms::write_term;
 use term_text::write_counted;
 use term_text::write_hex;
@@ -16,8 +16,8 @@ ghost use lib.ListN.{take};
 ghost use Rattle.reply.specs.Refusals.{numbered};
 ghost use Rattle.order.specs.Meaning.{ranksMeaning};
 ghost use Rattle.answer.specs.Answered.{answeredMeaning};
-ghost use Rattle.rewriting.specs.Asked.{argumentMeaning};
-ghost use Rattle.rewriting.specs.RunMeaning.{runMeaning};
+ghost use Rattle.asking.specs.Asked.{argumentMeaning};
+ghost use Rattle.running.specs.RunMeaning.{runMeaning};
 ghost use Rattle.stepping.specs.Stepped.{outcomeOf};
 ghost use Rattle.text.specs.Laying.{Lays};
 ghost use Rattle.text.specs.Text.{refusedLine};

@@ -8,9 +8,9 @@ use Rattle.book.proofs.read_book.Met as read-book
 use Rattle.blocks.proofs.write_block.Met as write-block
 use Rattle.order.proofs.check_ranks.Met as check-ranks
 use Rattle.answer.proofs.ranks_from_answer.Met as ranks-from-answer
-use Rattle.rewriting.proofs.running.run.Met as run
-use Rattle.rewriting.proofs.asking.argument_reply.Met as argument-reply
-use Rattle.rewriting.proofs.asking.argument.Met as argument
+use Rattle.running.proofs.run.Met as run
+use Rattle.asking.proofs.argument_reply.Met as argument-reply
+use Rattle.asking.proofs.argument.Met as argument
 use Rattle.rulebook.proofs.rulebook_read_book.Met as c-read-book
 use Rattle.rulebook.proofs.rulebook_write_block.Met as c-write-block
 use Rattle.rulebook.proofs.rulebook_check_ranks.Met as c-check-ranks

@@ -5,8 +5,8 @@ use mathlib.Core.Path.{_≡_, ap, _∙_}
 use Rattle.reply.specs.Reply.{Reply}
 use Rattle.reply.specs.Lent.{laid}
 use Rattle.steps.specs.Run.{Ran, ranBytes}
-use Rattle.rewriting.specs.RunMeaning.{runTold, runMeaning, RunsTo}
-use Rattle.rewriting.specs.declared.running.RunReply.{RunReply}
+use Rattle.running.specs.RunMeaning.{runTold, runMeaning, RunsTo}
+use Rattle.running.specs.declared.RunReply.{RunReply}
 use Rattle.rulebook.specs.Replies.{ranReply}
 use Rattle.rulebook.specs.declared.replies.RanReply.{RanReply}
 

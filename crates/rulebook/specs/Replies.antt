@@ -6,7 +6,7 @@ use Rattle.reply.specs.Reply.{Reply, given, refused}
 use Rattle.book.specs.Book.{Book, symbols}
 use Rattle.clauses.specs.File.{fileBlocks}
 use Rattle.steps.specs.Run.{Outcome, done, spent, tooLarge}
-use Rattle.rewriting.specs.RunMeaning.{Told}
+use Rattle.running.specs.RunMeaning.{Told}
 use Rattle.steps.specs.Argument.{Part}
 use Rattle.rulebook.specs.declared.replies.Verdict.{Verdict}
 use Rattle.rulebook.specs.declared.replies.BookReply.{BookReply}

@@ -1,19 +1,20 @@
 // The boundary to C: a thin function for each entry point. include/rulebook.h declares them.
 mod replies;
 
+use answer::Answered;
+use asking::ArgumentReply;
+use blocks::Written;
 use blocks::counting::count_blocks;
 use book::BookVerdict;
+use order::RanksVerdict;
 pub use replies::BookReply;
 pub use replies::PartReply;
 pub use replies::RanReply;
 pub use replies::Verdict;
 pub use replies::WrittenReply;
-use replies::no_book;
-use replies::of_answer;
-use replies::of_argument;
-use replies::of_block;
-use replies::of_ranks;
-use replies::of_run;
+use replies::outcome_number;
+use replies::refuse;
+use running::RunReply;
 ghost use mathlib.Core.Path.{_≡_};
 ghost use lib.ListN.{length};
 ghost use Rattle.reply.specs.Lent.{laid, lengthOf};
@@ -22,7 +23,7 @@ ghost use Rattle.order.specs.Clearing.{checkRanks};
 ghost use Rattle.clauses.specs.File.{block};
 ghost use Rattle.answer.specs.Ranks.{ranksFromAnswer};
 ghost use Rattle.steps.specs.Run.{run, ranBytes};
-ghost use Rattle.rewriting.specs.RunMeaning.{runTold};
+ghost use Rattle.running.specs.RunMeaning.{runTold};
 ghost use Rattle.steps.specs.Argument.{argument};
 ghost use Rattle.rulebook.specs.Replies.{verdictReply, bookReply, writtenReply, ranReply, partReply};
 
@@ -34,7 +35,14 @@ pub extern "C" fn rulebook_read_book(book: &[u8]) -> BookReply
     let read = book::read_book(book);
     let verdict = read.verdict;
     if let BookVerdict::Refused(refusal) = verdict {
-        return no_book(refusal);
+        let why = refuse(refusal);
+        return BookReply {
+            refusal: why.refusal,
+            place: why.place,
+            symbols: 0,
+            rules: 0,
+            blocks: 0,
+        };
     }
     let places = read.book;
     BookReply {
@@ -51,7 +59,14 @@ pub extern "C" fn rulebook_read_book(book: &[u8]) -> BookReply
 pub extern "C" fn rulebook_check_ranks(book: &[u8], ranks: &[u8]) -> Verdict
     ensures { λ r. ⌜ r ≡ verdictReply (checkRanks (now (book .entry)) (now (ranks .entry))) ⌝ }
 {
-    of_ranks(order::check_ranks(book, ranks))
+    let checked = order::check_ranks(book, ranks);
+    match checked {
+        RanksVerdict::Accepted => Verdict {
+            refusal: 0,
+            place: 0,
+        },
+        RanksVerdict::Refused(refusal) => refuse(refusal),
+    }
 }
 
 // Writes one block of the clause file.
@@ -60,7 +75,22 @@ pub extern "C" fn rulebook_write_block(book: &[u8], number: u64, out: &mut [u8])
     ensures replies { λ r. ⌜ r ≡ writtenReply (lengthOf (block (now (book .entry)) number (length (now (out .entry))))) ⌝ }
     ensures lays { λ _. ⌜ now (out .exit) ≡ laid (block (now (book .entry)) number (length (now (out .entry)))) (now (out .entry)) ⌝ }
 {
-    of_block(blocks::write_block(book, number, out))
+    let written = blocks::write_block(book, number, out);
+    match written {
+        Written::Laid(length) => WrittenReply {
+            refusal: 0,
+            place: 0,
+            length: length as u64,
+        },
+        Written::Refused(refusal) => {
+            let why = refuse(refusal);
+            WrittenReply {
+                refusal: why.refusal,
+                place: why.place,
+                length: 0,
+            }
+        }
+    }
 }
 
 // Reads a solver's answer and writes its ranks, if they make every rule decrease.
@@ -73,7 +103,22 @@ pub extern "C" fn rulebook_ranks_from_answer(
     ensures replies { λ r. ⌜ r ≡ writtenReply (lengthOf (ranksFromAnswer (now (book .entry)) (now (answer .entry)) (length (now (out .entry))))) ⌝ }
     ensures lays { λ _. ⌜ now (out .exit) ≡ laid (ranksFromAnswer (now (book .entry)) (now (answer .entry)) (length (now (out .entry)))) (now (out .entry)) ⌝ }
 {
-    of_answer(answer::ranks_from_answer(book, answer, out))
+    let answered = answer::ranks_from_answer(book, answer, out);
+    match answered {
+        Answered::Accepted(ranks) => WrittenReply {
+            refusal: 0,
+            place: 0,
+            length: ranks as u64,
+        },
+        Answered::Refused(refusal) => {
+            let why = refuse(refusal);
+            WrittenReply {
+                refusal: why.refusal,
+                place: why.place,
+                length: 0,
+            }
+        }
+    }
 }
 
 // Runs a record under a book that the ranks clear, and writes the term reached.
@@ -90,7 +135,30 @@ pub extern "C" fn rulebook_run(
     ensures lays { λ _. ⌜ now (out .exit) ≡ laid (ranBytes (run (now (book .entry)) (now (ranks .entry)) (now («record» .entry)) budget
         (length (now (out .entry))))) (now (out .entry)) ⌝ }
 {
-    of_run(rewriting::running::run(book, ranks, record, budget, out))
+    let ran = running::run(book, ranks, record, budget, out);
+    match ran {
+        RunReply::RanTo {
+            outcome,
+            steps,
+            length,
+        } => RanReply {
+            refusal: 0,
+            place: 0,
+            outcome: outcome_number(outcome),
+            steps,
+            length: length as u64,
+        },
+        RunReply::Refused(refusal) => {
+            let why = refuse(refusal);
+            RanReply {
+                refusal: why.refusal,
+                place: why.place,
+                outcome: 0,
+                steps: 0,
+                length: 0,
+            }
+        }
+    }
 }
 
 // Where argument `number`, from 0, of the record's root stands in the record.
@@ -98,5 +166,22 @@ pub extern "C" fn rulebook_run(
 pub extern "C" fn rulebook_argument(book: &[u8], record: &[u8], number: u64) -> PartReply
     ensures { λ r. ⌜ r ≡ partReply (argument (now (book .entry)) (now («record» .entry)) number) ⌝ }
 {
-    of_argument(rewriting::asking::argument_reply(book, record, number))
+    let found = asking::argument_reply(book, record, number);
+    match found {
+        ArgumentReply::Found { start, length } => PartReply {
+            refusal: 0,
+            place: 0,
+            start: start as u64,
+            length: length as u64,
+        },
+        ArgumentReply::Refused(refusal) => {
+            let why = refuse(refusal);
+            PartReply {
+                refusal: why.refusal,
+                place: why.place,
+                start: 0,
+                length: 0,
+            }
+        }
+    }
 }

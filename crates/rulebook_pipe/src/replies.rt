@@ -43,8 +43,8 @@ fn run(book: &[u8], ranks: &[u8], record: &[u8], budget: u64, out: &mut [u8]) ->
 fn argument(book: &[u8], record: &[u8], i: u64, out: &mut [u8]) -> usize
     ensures { λ r. ⌜ r ≤ length (now (out .entry)) ⌝ }
 {
-    let reply = rewriting::asking::argument_reply(book, record, i);
-    let part = rewriting::asking::argument(book, record, i);
+    let reply = asking::argument_reply(book, record, i);
+    let part = asking::argument(book, record, i);
     write_part(reply, part, arities(book), out)
 }
 

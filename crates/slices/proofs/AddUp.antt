@@ -21,15 +21,14 @@ use Rattle.record.specs.Record.{recordBytes, readRecord}
 use Rattle.order.specs.Clearing.{ranksClear}
 use Rattle.steps.specs.Step.{stepOf}
 use Rattle.steps.specs.Run.{Outcome, done, spent, tooLarge, Ran, runFrom, ranCleared, run, ranBytes}
-use Rattle.rewriting.specs.RunMeaning.{Told, toldOf, runTold, runMeaning, RunsTo}
+use Rattle.running.specs.RunMeaning.{Told, toldOf, runTold, runMeaning, RunsTo}
 use Rattle.stepping.specs.Stepped.{outcomeOf}
-use Rattle.rewriting.specs.declared.running.RunReply.{RunReply}
-use Rattle.rewriting.specs.declared.running.RunReply.the-variants.{RanTo, Refused}
+use Rattle.running.specs.declared.RunReply.{RunReply}
+use Rattle.running.specs.declared.RunReply.the-variants.{RanTo, Refused}
 use Rattle.stepping.specs.declared.Outcome.the-variants.{Done, Spent, TooLarge}
-use Rattle.steps.proofs.Run.{run-done, run-spent, run-too-large, run-goes-on}
-use Rattle.demands.specs.BudgetsAdd.{counting, carriedOn, BudgetsAdd}
-use Rattle.demands.proofs.BudgetsAdd.{run-budgets-add}
-use Rattle.demands.proofs.Demand3.{Accepted, accepted}
+use Rattle.steps.proofs.Run.{run-done, run-spent, run-too-large, run-goes-on, after, carriedOn}
+use Rattle.steps.proofs.Accepted.{Accepted, accepted, with-more}
+use Rattle.steps.proofs.Accepted as runs-on
 use Rattle.slices.specs.Sliced.{OneRun, laterOn, toldLater, goingOf}
 use Rattle.slices.specs.declared.Going.the-variants.{On, Ended}
 
@@ -119,7 +118,7 @@ one-run {before = before} runs = record { replied = runs .replied; holds = run-h
 
 -- The same with so many steps made before.
 told-later : (made : ℕ) (reply : Reply Ran) → toldLater made (runTold reply) ≡ runTold (laterOn made reply)
-unfolding toldLater runTold laterOn toldOf counting _>>=_
+unfolding toldLater runTold laterOn toldOf _>>=_
 told-later made (given ran) = refl
 told-later made (refused r) = refl
 
@@ -127,9 +126,9 @@ later-holds :
     (made : ℕ) (reply : Reply Ran) (after : Bytes) →
     ((ran : Ran) → reply ≡ given ran → take (length (recordBytes (ran .reached))) after ≡ recordBytes (ran .reached)) →
     (ran : Ran) → laterOn made reply ≡ given ran → take (length (recordBytes (ran .reached))) after ≡ recordBytes (ran .reached)
-unfolding laterOn counting _>>=_
+unfolding laterOn _>>=_
 later-holds made (given first) after holds ran e =
-    let same : first .reached ≡ ran .reached = ap (λ (r : Ran). r .reached) (let both : _≡_ {A = Ran} (counting made first) ran = cc e in both) in
+    let same : first .reached ≡ ran .reached = ap (λ (r : Ran). r .reached) (let both : _≡_ {A = Ran} (record { outcome = first .outcome; steps = made + first .steps; reached = first .reached }) ran = cc e in both) in
     subst (λ (t : Term). take (length (recordBytes t)) after ≡ recordBytes t) same (holds first refl)
 later-holds made (refused r) after holds ran e = absurd (refused-not-given r ran e)
 
@@ -155,6 +154,12 @@ told-within bytes ranks record′ budget room answer told replied is = go (run b
         subst (λ (n : ℕ). n ≤ budget) (sym (ap (λ (t : Told). t .steps) same)) (steps-within bytes ranks record′ budget room ran e)
     go (refused r) e = absurd (given-not-refused told r (sym is ∙ replied ∙ ap runTold e))
 
+-- Only a spent run is carried on, by the run of the term that it reached.
+spent-carried : (rules : List Rule) (more : ℕ) (ran : Ran) → ran .outcome ≡ spent → carriedOn rules more ran ≡ after (ran .steps) (runFrom rules more 0 (ran .reached))
+unfolding carriedOn
+spent-carried rules more ran e =
+    ap {B = Ran} (λ (o : Outcome). elim o [ done ↦ ran | spent ↦ after (ran .steps) (runFrom rules more 0 (ran .reached)) | tooLarge ↦ ran ]) e
+
 -- The slices so far, a run with budget a, and more budget.
 module _ (bytes ranks record′ : Bytes) (a b : ℕ) where
   abbrev so-far : Reply Ran
@@ -164,13 +169,15 @@ module _ (bytes ranks record′ : Bytes) (a b : ℕ) where
   whole = run bytes ranks record′ (a + b) 513
 
   ended-same : (ran : Ran) → so-far ≡ given ran → (ran .outcome ≡ spent → ⊥) → whole ≡ so-far
-  unfolding BudgetsAdd carriedOn
-  ended-same ran e not = run-budgets-add bytes ranks record′ a b 513 ran e ∙ go (ran .outcome) refl
+  unfolding carriedOn
+  ended-same ran e not =
+      let its : Accepted bytes ranks record′ a ran = accepted bytes ranks record′ a 513 ran e in
+      with-more bytes ranks record′ a ran its b 513 (omega arith) ∙ go (its .book .rules) (ran .outcome) refl
     where
-      go : (o : Outcome) → ran .outcome ≡ o → carriedOn bytes ranks b 513 ran ≡ so-far
-      go done o = rw (carriedOn, o) (sym e)
-      go spent o = absurd (not o)
-      go tooLarge o = rw (carriedOn, o) (sym e)
+      go : (rules : List Rule) (o : Outcome) → ran .outcome ≡ o → given (carriedOn rules b ran) ≡ so-far
+      go rules done o = rw (carriedOn, o) (sym e)
+      go rules spent o = absurd (not o)
+      go rules tooLarge o = rw (carriedOn, o) (sym e)
 
   same-run : (answer : RunReply) → goingOf answer ≡ Ended → runMeaning answer ≡ runTold so-far → whole ≡ so-far
   unfolding runTold _>>=_
@@ -232,10 +239,12 @@ module _ (bytes ranks record′ : Bytes) (a b : ℕ) where
     size-within = omega (arith, its .long, ap length (its .stands), length-take size out)
 
     goes-on : whole ≡ laterOn steps (run bytes ranks (take size out) b 513)
-    unfolding BudgetsAdd carriedOn laterOn
+    unfolding after laterOn _>>=_
     goes-on =
-        run-budgets-add bytes ranks record′ a b 513 (its .ran) (its .is)
-        ∙ rw (carriedOn, its .isSpent) refl
+        let found : Accepted bytes ranks record′ a (its .ran) = accepted bytes ranks record′ a 513 (its .ran) (its .is) in
+        with-more bytes ranks record′ a (its .ran) found b 513 (omega arith)
+        ∙ ap (λ (ran : Ran). given ran) (spent-carried (found .book .rules) b (its .ran) (its .isSpent))
+        ∙ ap (laterOn (its .ran .steps)) (sym (runs-on.goes-on bytes ranks record′ a (its .ran) found b 513 (omega arith)))
         ∙ ap₂ (λ (n : ℕ) (l : Bytes). laterOn n (run bytes ranks l b 513)) (its .made) (sym (its .stands))
 
     pub carried-on : {answer : RunReply} {after : Bytes} → OneRun (laterOn steps (run bytes ranks (take size out) b 513)) answer after → OneRun whole answer after

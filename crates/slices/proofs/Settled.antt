@@ -11,8 +11,8 @@ use lib.ListN.{length, take}
 use Rattle.reply.specs.Reply.{given}
 use Rattle.record.specs.Record.{recordBytes}
 use Rattle.steps.specs.Run.{Ran, run}
-use Rattle.rewriting.specs.RunMeaning.{runMeaning}
-use Rattle.rewriting.specs.declared.running.RunReply.{RunReply}
+use Rattle.running.specs.RunMeaning.{runMeaning}
+use Rattle.running.specs.declared.RunReply.{RunReply}
 use Rattle.slices.proofs.run.Kinds as run-kinds
 use Rattle.slices.proofs.run.Reads as run-reads
 

@@ -6,11 +6,10 @@ use lib.ListN.{length, take}
 use Rattle.reply.specs.Reply.{Reply, given, _>>=_}
 use Rattle.record.specs.Record.{recordBytes}
 use Rattle.steps.specs.Run.{Ran}
-use Rattle.rewriting.specs.RunMeaning.{Told, runTold, runMeaning}
-use Rattle.rewriting.specs.declared.running.RunReply.{RunReply}
-use Rattle.rewriting.specs.declared.running.RunReply.the-variants.{RanTo, Refused}
+use Rattle.running.specs.RunMeaning.{Told, runTold, runMeaning}
+use Rattle.running.specs.declared.RunReply.{RunReply}
+use Rattle.running.specs.declared.RunReply.the-variants.{RanTo, Refused}
 use Rattle.stepping.specs.declared.Outcome.the-variants.{Done, Spent, TooLarge}
-use Rattle.demands.specs.BudgetsAdd.{counting}
 use Rattle.slices.specs.declared.Going.{Going}
 use Rattle.slices.specs.declared.Going.the-variants.{On, Ended}
 
@@ -19,12 +18,13 @@ pub record OneRun (reply : Reply Ran) (answer : RunReply) (buffer : List ℕ) : 
   pub replied : runMeaning answer ≡ runTold reply
   pub holds : (ran : Ran) → reply ≡ given ran → take (length (recordBytes (ran .reached))) buffer ≡ recordBytes (ran .reached)
 
--- A run that so many steps led to, and how it is told.
+-- A run that so many steps led to: they are counted too.
 unfoldable pub laterOn : (made : ℕ) → Reply Ran → Reply Ran
 laterOn made reply = do
   ran ← reply
-  given (counting made ran)
+  given (record { outcome = ran .outcome; steps = made + ran .steps; reached = ran .reached })
 
+-- The same of a run as it is told.
 unfoldable pub toldLater : (made : ℕ) → Reply Told → Reply Told
 toldLater made reply = do
   told ← reply

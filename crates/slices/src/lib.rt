@@ -1,13 +1,13 @@
 // A run in slices of its budget, so that a long one can tell on a terminal how far it is. Budgets add up: the result is that of one run.
 use libc::STDERR_FILENO;
-use rewriting::running::Outcome;
-use rewriting::running::RunReply;
+use running::Outcome;
+use running::RunReply;
 ghost use Prim.Native.Nat.{_+_, _≤_, _<_, _^_, min};
 ghost use mathlib.Core.Path.{_≡_};
 ghost use lib.ListN.{length, take};
 ghost use Rattle.reply.specs.Reply.{given};
 ghost use Rattle.steps.specs.Run.{run};
-ghost use Rattle.rewriting.specs.RunMeaning.{Told, runMeaning};
+ghost use Rattle.running.specs.RunMeaning.{Told, runMeaning};
 ghost use Rattle.slices.specs.Sliced.{OneRun, laterOn, toldLater, goingOf};
 
 // The steps of a slice.
@@ -83,10 +83,7 @@ fn carry_on(
 {
     let mut record = [0u8; 513];
     let laid = term::copy(out, 0, size, &mut record);
-    after(
-        made,
-        rewriting::running::run(book, ranks, &record[..laid], slice, out),
-    )
+    after(made, running::run(book, ranks, &record[..laid], slice, out))
 }
 
 // On a terminal alone: how many steps were made and how many nodes the term now has, over the line that told it before.
@@ -115,7 +112,7 @@ fn slice_by_slice(book: &[u8], ranks: &[u8], record: &[u8], budget: u64, out: &m
     requires { ⌜ length (now out) ≡ 513 ⌝ }
     ensures { λ r. ⌜ OneRun (run (now (book .entry)) (now (ranks .entry)) (now («record» .entry)) budget 513) r (now (out .exit)) ⌝ }
 {
-    let mut reply = rewriting::running::run(book, ranks, record, 0, out);
+    let mut reply = running::run(book, ranks, record, 0, out);
     let mut left = budget;
     while 0 < left {
         let state = goes_on(reply);

@@ -14,3 +14,4 @@ pub mod NextAsked
 pub mod ArgumentAsked
 pub mod StaysOver
 pub mod StaysARecord
+pub mod Accepted

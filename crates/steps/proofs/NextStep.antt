@@ -24,8 +24,7 @@ use Rattle.steps.proofs.OwnStep.{by-arguments, by-first-and-later}
 abbrev Bytes : Type 0
 Bytes = List ℕ
 
--- The lowest rule
-
+-- The lowest rule: the first that fits, by its number.
 module _ (rule : Rule) (rules : List Rule) (s : Term) where
   pub front-lowest : fits (rule .left) s ≡ true → lowest (rule ∷ rules) s ≡ some 0
   unfolding lowest
@@ -60,8 +59,7 @@ lowest-declared (rule ∷ rules) s i e = go (fits (rule .left) s) (lowest rules 
     go false none later q = absurd (found-nothing refl q)
     go false (some j) later q = omega (arith, Option·some-injective (suc j) i q, later j refl)
 
--- No step where nothing is taken
-
+-- Where nothing is taken, there is no step.
 module _ (rules : List Rule) where
   or-none : {A : Type 0} (o p : Option A) → orElse o p ≡ none → (o ≡ none) × (p ≡ none)
   unfolding orElse
@@ -87,8 +85,7 @@ module _ (rules : List Rule) where
         let (first, later) = or-none (takenIn rules p t) (takenInArgs rules (p + 2 * size t) ts) e in
         by-first-and-later rules t ts none none (not-taken p t first) (none-taken (p + 2 * size t) ts later)
 
--- The step in bytes
-
+-- The step in bytes: two bytes more, and what stands before and behind a term.
 take-two : (bytes : Bytes) (at : ℕ) → at + 1 < length bytes → take (at + 2) bytes ≡ take at bytes ++ (getD bytes at 0 ∷ getD bytes (at + 1) 0 ∷ [])
 take-two bytes at p =
     ap (λ (n : ℕ). take n bytes) (add-two at)
@@ -139,6 +136,7 @@ from-outside p from = record {
   nextBytes = p ∙ from .nextBytes;
 }
 
+-- A variable has no arguments to be looked into.
 at-variable : (rules : List Rule) (x : ℕ) → stepOf rules (var x) ≡ rewritten rules (var x)
 unfolding stepOf
 at-variable rules x = refl

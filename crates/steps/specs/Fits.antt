@@ -33,6 +33,7 @@ unfoldable pub bound : List Binding → Replacement
 bound [] x = var x
 bound (b ∷ bs) x = elim (eqb (b .variable) x) [ true ↦ b .term | false ↦ bound bs x ]
 
+-- The replacement that a left side's variables ask for; it makes the left side identical to s only if the rule fits.
 unfoldable pub matching : (left s : Term) → Replacement
 matching left s = bound (standing left s)
 

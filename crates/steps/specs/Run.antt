@@ -13,6 +13,7 @@ use Rattle.record.specs.Record.{recordBytes, readRecord}
 use Rattle.order.specs.Clearing.{ranksClear}
 use Rattle.steps.specs.Step.{stepOf, OwnSteps}
 
+-- How a run ends: "Done", "Spent", "Too large".
 pub data Outcome : Type 0 where
   done spent tooLarge : Outcome
 

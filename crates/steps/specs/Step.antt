@@ -17,6 +17,7 @@ mutual
     atRoot : {s t : Term} (rule : Rule) (σ : Replacement) → List·Memᴰ rule rules → replace σ (rule .left) ≡ s → replace σ (rule .right) ≡ t → Step rules s t
     inside : {f : ℕ} {ss ts : Args} → StepInside rules ss ts → Step rules (app f ss) (app f ts)
 
+  -- A step of one argument; the others stay.
   pub data StepInside (rules : List Rule) : Args → Args → Type 0 where
     inFirst : {s t : Term} {ss : Args} → Step rules s t → StepInside rules (cons s ss) (cons t ss)
     inLater : {s : Term} {ss ts : Args} → StepInside rules ss ts → StepInside rules (cons s ss) (cons s ts)
@@ -43,6 +44,7 @@ chosen (rule ∷ rules) s = elim (fits (rule .left) s) [ true ↦ some rule | fa
 unfoldable pub applied : Rule → Term → Term
 applied rule s = replace (matching (rule .left) s) (rule .right)
 
+-- What a step at this very place makes of s, if some rule fits it.
 unfoldable pub rewritten : List Rule → Term → Option Term
 rewritten rules s = Option·map (λ (rule : Rule). applied rule s) (chosen rules s)
 

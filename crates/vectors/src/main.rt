@@ -3,8 +3,8 @@
 mod lent;
 mod ranking;
 mod reading;
+mod rewriting;
 mod rows;
-mod running;
 mod show;
 mod words;
 mod writing;

@@ -1,7 +1,7 @@
 // The rows: each is a call, and is shown with its reply.
 use crate::ranking;
 use crate::reading;
-use crate::running;
+use crate::rewriting;
 use crate::show;
 use crate::words;
 use crate::writing;
@@ -36,14 +36,14 @@ fn run(row: &[u8], book: &[u8]) {
     let m = words::bytes(words::word(row, 2), &mut record);
     let budget = words::number(words::word(row, 3));
     let room = words::number(words::word(row, 4));
-    running::run(book, &ranks[..n], &record[..m], budget, room);
+    rewriting::run(book, &ranks[..n], &record[..m], budget, room);
 }
 
 // argument RECORD NUMBER
 fn argument(row: &[u8], book: &[u8]) {
     let mut record = [0u8; 1024];
     let n = words::bytes(words::word(row, 1), &mut record);
-    running::argument(book, &record[..n], words::number(words::word(row, 2)));
+    rewriting::argument(book, &record[..n], words::number(words::word(row, 2)));
 }
 
 // answer ROOM TEXT

@@ -1,7 +1,7 @@
 -- `write_part` meets its contract. Assumes nothing.
 use borrow.Author.Needs.{needs}
 use Rattle.text.specs.Text.{ascii}
-use Rattle.rewriting.specs.Asked.{argumentMeaning}
+use Rattle.asking.specs.Asked.{argumentMeaning}
 use Rattle.reply_lines.specs.Lines.{partLines}
 use Rattle.reply_lines.proofs.Parts.{any-term, then}
 use Rattle.reply_lines.proofs.write_part.Statement.{statement}

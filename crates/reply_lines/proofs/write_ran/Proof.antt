@@ -1,6 +1,6 @@
 -- `write_ran` meets its contract. Assumes nothing.
 use borrow.Author.Needs.{needs}
-use Rattle.rewriting.specs.RunMeaning.{runMeaning}
+use Rattle.running.specs.RunMeaning.{runMeaning}
 use Rattle.reply_lines.specs.Lines.{ranLines}
 use Rattle.reply_lines.proofs.Parts.{any-term}
 use Rattle.reply_lines.proofs.write_ran.Statement.{statement}

@@ -1,8 +1,11 @@
 -- `rulebook_read_book` meets its contract: a refusal is told by its number and place, and of a book that was read the counts are those of the
 -- book that stands at its places. Assumes nothing.
-use mathlib.Core.Path.{_∙_}
+use mathlib.Core.Path.{ap, _∙_}
 use borrow.Author.Needs.{needs}
+use Rattle.reply.specs.Reply.{refused, _at_}
 use Rattle.book.proofs.WasRead.{read-from, was-read}
+use Rattle.rulebook.specs.Replies.{bookReply}
+use Rattle.rulebook.specs.declared.replies.Verdict.{Verdict}
 use Rattle.rulebook.proofs.BookTold.{book-not-read, book-was-read}
 use Rattle.rulebook.proofs.rulebook_read_book.Statement.{statement}
 use Rattle.rulebook.proofs.rulebook_read_book.Tie as tie
@@ -13,13 +16,14 @@ read-book-requires c κs = search needs
 enum-known-verdict : tie.Need-enum-known-verdict
 enum-known-verdict c = search needs
 
-no-book-requires : tie.Need-no-book-requires
-no-book-requires c κs = search needs
+refuse-requires : tie.Need-refuse-requires
+refuse-requires c κs = search needs
 
 returns : tie.Need-returns
 returns c =
     let read = c .before .before .before .before .read-book in
-    c .no-book .ensures ∙ book-not-read (c .before .before .before .before .before .before .args .book .now) (read .result) _ (read .ensures .0) (c .before .before .verdict .given .1)
+    ap (λ (why : Verdict). bookReply (refused (why .refusal at why .place))) (c .refuse .ensures)
+    ∙ book-not-read (c .before .before .before .before .before .before .args .book .now) (read .result) _ (read .ensures .0) (c .before .before .verdict .given .1)
 
 enum-told : tie.Need-enum-told
 enum-told c = search needs
@@ -42,7 +46,7 @@ rulebook-read-book-spec =
     (tie.spec
     read-book-requires
     enum-known-verdict
-    no-book-requires
+    refuse-requires
     returns
     enum-told
     count-blocks-requires

@@ -2,8 +2,8 @@
 use mathlib.Core.Path.{sym, ap}
 use borrow.Author.Needs.{needs}
 use Rattle.reply.specs.Reply.{_>>=_}
-use Rattle.rewriting.specs.RunMeaning.{runMeaning}
-use Rattle.rewriting.specs.declared.running.RunReply.{RunReply}
+use Rattle.running.specs.RunMeaning.{runMeaning}
+use Rattle.running.specs.declared.RunReply.{RunReply}
 use Rattle.slices.specs.Sliced.{toldLater}
 use Rattle.slices.proofs.AddUp.{refused-later}
 use Rattle.slices.proofs.after.Statement.{statement}

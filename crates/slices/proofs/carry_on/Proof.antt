@@ -12,7 +12,7 @@ use Rattle.reply.specs.Reply.{Reply}
 use Rattle.term.specs.Copied.{copied}
 use Rattle.term.proofs.Copied.{copied-whole}
 use Rattle.steps.specs.Run.{Ran, run}
-use Rattle.rewriting.specs.RunMeaning.{RunsTo}
+use Rattle.running.specs.RunMeaning.{RunsTo}
 use Rattle.slices.proofs.AddUp.{told-within, later-run}
 use Rattle.slices.proofs.carry_on.Statement.{statement}
 use Rattle.slices.proofs.carry_on.Tie as tie

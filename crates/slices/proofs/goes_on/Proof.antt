@@ -2,7 +2,7 @@
 use mathlib.Core.Path.{sym, ap, _∙_}
 use borrow.Author.Needs.{needs}
 use Rattle.stepping.specs.declared.Outcome.{Outcome}
-use Rattle.rewriting.specs.declared.running.RunReply.the-variants.{RanTo}
+use Rattle.running.specs.declared.RunReply.the-variants.{RanTo}
 use Rattle.slices.specs.Sliced.{goingOf}
 use Rattle.slices.proofs.goes_on.Statement.{statement}
 use Rattle.slices.proofs.goes_on.Tie as tie

@@ -8,8 +8,8 @@ use denote.Ref.{now}
 use lib.ListN.{length}
 use Rattle.reply.specs.Reply.{Reply}
 use Rattle.steps.specs.Run.{Ran, run}
-use Rattle.rewriting.specs.RunMeaning.{RunsTo}
-use Rattle.rewriting.specs.declared.running.RunReply.{RunReply}
+use Rattle.running.specs.RunMeaning.{RunsTo}
+use Rattle.running.specs.declared.RunReply.{RunReply}
 use Rattle.slices.specs.Sliced.{OneRun}
 use Rattle.slices.proofs.AddUp.{one-run, ended-run, SpentRun, spent-run, made-within, size-within, carried-on}
 use Rattle.slices.proofs.slice_by_slice.Statement.{statement}

@@ -1,0 +1,3 @@
+pub mod ArgumentPart
+pub mod HandedOut
+pub mod Settled

@@ -1,3 +1,0 @@
-pub mod Turns
-pub mod RunMeaning
-pub mod Asked

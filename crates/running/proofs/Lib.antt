@@ -1,0 +1,4 @@
+pub mod TakingTurns
+pub mod RecordRuns
+pub mod RunsTo
+pub mod Settled
