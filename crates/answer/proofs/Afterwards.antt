@@ -1,7 +1,7 @@
 -- "Afterwards: .. answer 12, 13, 14, 9, 8": what each refusal and what accepted ranks mean, and what the lent buffer holds then.
 -- Assumes nothing.
 use Prim.Native.Nat.{ℕ, _-_, _*_, _≤_, _<_}
-use mathlib.Core.List.{List, [], _++_}
+use mathlib.Core.List.{List, _++_}
 use mathlib.Core.Path.{_≡_, refl, sym, ap, ap₂, subst, _∙_}
 use native.Mathlib.Nat.{le-trans, mul-le-mul}
 use native.Mathlib.Omega.{arith}
@@ -35,7 +35,7 @@ use Rattle.answer.specs.Ranks.{ranksChecked, answered, ranksFromAnswer}
 use Rattle.answer_lines.specs.Marks.{tableOf, assigned}
 use Rattle.answer_lines.specs.AnswerRead.{ReadAs}
 use Rattle.answer.specs.PaddedRanks.{paddedRanks}
-use Rattle.answer.specs.Answered.{answeredMeaning, acceptedOf}
+use Rattle.answer.specs.Answered.{answeredMeaning}
 use Rattle.answer.specs.declared.Answered.{Answered}
 use Rattle.answer.specs.declared.Answered.the-variants.{Accepted, Refused}
 use Rattle.answer_lines.specs.declared.Verdict.{Verdict}
@@ -65,10 +65,6 @@ bits-room n k e h = let few : k ≤ 4 = rw e (rank-bits-least n h .1 4 h) in (h,
 -- 9 and 8.
 abbrev ranksIn : Book → Assignment → List ℕ
 ranksIn book α = ranksOf (symbols book) (rankBits (symbols book)) α
-
-abbrev answerOf : (n : ℕ) → RanksVerdict → Answered
-answerOf n Ranks.Accepted = Accepted n
-answerOf n (Ranks.Refused why) = Refused why
 
 module _ (book : Book) (α : Assignment) (buffer : List ℕ) where
   short : length buffer < symbols book → ranksChecked book α (length buffer) ≡ refused (numbered ShortBuffer)
@@ -110,29 +106,20 @@ module _ (book : Book) (α : Assignment) (buffer : List ℕ) where
           all : n - 0 ≡ symbols book
           all = omega arith
 
-      none : copied ranks 0 0 (length buffer) ≡ []
-      none = copied-whole ranks 0 0 (length buffer) (omega arith)
-
-      laid-so :
-          (d : RanksVerdict) → ranksMeaning d ≡ allDecrease (exceeds ranks) 0 (book .rules) →
-          AnsweredAs (ranksChecked book α (length buffer)) buffer (answerOf n d) (overlaid (copied ranks 0 (acceptedOf n d) (length buffer)) buffer)
+      pub ranks-refused :
+          (d : RanksVerdict) (why : Named) → ranksMeaning d ≡ allDecrease (exceeds ranks) 0 (book .rules) → d ≡ Ranks.Refused why →
+          AnsweredAs (ranksChecked book α (length buffer)) buffer (Refused why) buffer
       unfolding ranksMeaning _>>_
-      laid-so Ranks.Accepted answer =
-          as-given buffer (overlaid (copied ranks 0 n (length buffer)) buffer) n (checked Ranks.Accepted answer)
-          (count ∙ sym (length-ranksOf (symbols book) (rankBits (symbols book)) α)) (ap (λ (l : List ℕ). overlaid l buffer) whole)
-      laid-so (Ranks.Refused why) answer = rw none (as-refused buffer why (checked (Ranks.Refused why) answer))
+      ranks-refused d why answer same =
+          as-refused buffer why (checked d answer ∙ ap (λ (v : RanksVerdict). _>>_ (ranksMeaning v) (given (ranksIn book α))) same)
 
-      -- As many ranks are laid as are accepted.
       pub ranks-laid :
-          (d e : RanksVerdict) (m : ℕ) (after : List ℕ) → ranksMeaning d ≡ allDecrease (exceeds ranks) 0 (book .rules) → m ≡ acceptedOf n d →
-          after ≡ overlaid (copied ranks 0 m (length buffer)) buffer → d ≡ e →
-          AnsweredAs (ranksChecked book α (length buffer)) buffer (answerOf n e) after
-      ranks-laid d e m after answer many so same =
-          rw (so, many)
-          (subst
-          (λ (v : RanksVerdict).
-          AnsweredAs (ranksChecked book α (length buffer)) buffer (answerOf n v) (overlaid (copied ranks 0 (acceptedOf n d) (length buffer)) buffer))
-          same (laid-so d answer))
+          (d : RanksVerdict) (after : List ℕ) → ranksMeaning d ≡ allDecrease (exceeds ranks) 0 (book .rules) → d ≡ Ranks.Accepted →
+          after ≡ overlaid (copied ranks 0 n (length buffer)) buffer → AnsweredAs (ranksChecked book α (length buffer)) buffer (Accepted n) after
+      unfolding ranksMeaning _>>_
+      ranks-laid d after answer same so =
+          as-given buffer after n (checked d answer ∙ ap (λ (v : RanksVerdict). _>>_ (ranksMeaning v) (given (ranksIn book α))) same)
+          (count ∙ sym (length-ranksOf (symbols book) (rankBits (symbols book)) α)) (so ∙ ap (λ (l : List ℕ). overlaid l buffer) whole)
 
 -- 12, then 13 and 14.
 same-ranks-checked :

@@ -2,8 +2,6 @@
 use Prim.Native.Nat.{ℕ}
 use Rattle.reply.specs.Reply.{Reply, given, refused}
 use Rattle.reply.specs.Refusals.{numbered}
-use Rattle.order.specs.declared.RanksVerdict.{RanksVerdict}
-use Rattle.order.specs.declared.RanksVerdict.the-variants as Ranks
 use Rattle.answer.specs.declared.Answered.{Answered}
 use Rattle.answer.specs.declared.Answered.the-variants.{Accepted, Refused}
 
@@ -11,8 +9,3 @@ use Rattle.answer.specs.declared.Answered.the-variants.{Accepted, Refuse
 unfoldable pub answeredMeaning : Answered → Reply ℕ
 answeredMeaning (Accepted n) = given n
 answeredMeaning (Refused why) = refused (numbered why)
-
--- How many ranks are accepted of so many symbols, by the rank check's answer.
-abbrev pub acceptedOf : (symbols : ℕ) → RanksVerdict → ℕ
-acceptedOf n Ranks.Accepted = n
-acceptedOf n (Ranks.Refused why) = 0

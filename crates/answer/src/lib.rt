@@ -16,22 +16,12 @@ ghost use Rattle.book.specs.WasRead.{ReadFrom};
 ghost use Rattle.clauses.specs.Blocks.{«V»};
 ghost use Rattle.answer.specs.Ranks.{ranksChecked, answered, ranksFromAnswer};
 ghost use Rattle.answer_lines.specs.Marks.{assigned};
-ghost use Rattle.answer.specs.Answered.{answeredMeaning, acceptedOf};
+ghost use Rattle.answer.specs.Answered.{answeredMeaning};
 
 // What comes of an answer: so many ranks accepted, or the refusal.
 pub enum Answered {
     Accepted(usize),
     Refused(Refusal),
-}
-
-// How many ranks are accepted, and so laid: one for each symbol, or none.
-fn accepted(verdict: RanksVerdict, symbols: usize) -> usize
-    ensures { λ r. ⌜ r ≡ acceptedOf symbols verdict ⌝ }
-{
-    match verdict {
-        RanksVerdict::Accepted => symbols,
-        RanksVerdict::Refused(_) => 0,
-    }
 }
 
 // "9, 8", of the rank variables' values; "Accepted ranks are written to the first n bytes of the lent buffer".
@@ -47,10 +37,12 @@ fn checked_ranks(bytes: &[u8], book: Book, table: [u8; 64], out: &mut [u8]) -> A
     }
     let ranks = ranks_of(&table, symbols, term::rank_bits(symbols));
     let verdict = order::first_not_decreasing(bytes, book, ranks);
-    term::copy(&ranks, 0, accepted(verdict, symbols), out);
     match verdict {
-        RanksVerdict::Accepted => Answered::Accepted(symbols),
         RanksVerdict::Refused(why) => Answered::Refused(why),
+        RanksVerdict::Accepted => {
+            term::copy(&ranks, 0, symbols, out);
+            Answered::Accepted(symbols)
+        }
     }
 }
 

@@ -1,8 +1,8 @@
--- `answer::checked_ranks` meets its contract: the buffer is short, or as many ranks are laid as the check accepts. Assumes nothing.
+-- `answer::checked_ranks` meets its contract: the buffer is short, the check refuses, or the ranks are laid. Assumes nothing.
 use native.Mathlib.Omega.{arith}
 use borrow.Author.Needs.{needs}
 use Rattle.book.proofs.WasRead.{read-stands}
-use Rattle.answer.proofs.Afterwards.{bits-room, short-buffer, ranks-laid}
+use Rattle.answer.proofs.Afterwards.{bits-room, short-buffer, ranks-refused, ranks-laid}
 use Rattle.answer.proofs.checked_ranks.Statement.{statement}
 use Rattle.answer.proofs.checked_ranks.Tie as tie
 
@@ -18,38 +18,32 @@ ranks-of-requires c κs = bits-room _ _ (c .rank-bits .ensures) (read-stands (c 
 first-not-decreasing-requires : tie.Need-first-not-decreasing-requires
 first-not-decreasing-requires c κs = search needs
 
-slice-aggregate-copy : tie.Need-slice-aggregate-copy
-slice-aggregate-copy c = search needs
-
-accepted-requires : tie.Need-accepted-requires
-accepted-requires c κs = search needs
-
-copy-requires : tie.Need-copy-requires
-copy-requires c κs = search needs
+enum-known-verdict : tie.Need-enum-known-verdict
+enum-known-verdict c = search needs
 
 enum-told : tie.Need-enum-told
 enum-told c = search needs
 
-enum-known-verdict : tie.Need-enum-known-verdict
-enum-known-verdict c = search needs
+slice-aggregate-copy : tie.Need-slice-aggregate-copy
+slice-aggregate-copy c = search needs
+
+copy-requires : tie.Need-copy-requires
+copy-requires c κs = search needs
+
+returns-2 : tie.Need-returns-2
+returns-2 c =
+    let start = c .before .before .before .before .before .before .before .before .before .before in
+    ranks-refused _ _ (start .args .out .now) _ _ _ (read-stands (start .pre) .symbolCount) (c .before .before .before .before .before .rank-bits .ensures) (c .before .before .before .before .ranks-of .ensures)
+    (c .before .before .before .before .before .before .before .if1 .left) _ _ (c .before .before .before .first-not-decreasing .ensures) (c .before .verdict .given .1)
 
 same-length : tie.Need-same-length
 same-length c = search needs
 
-returns-2 : tie.Need-returns-2
-returns-2 c =
-    let start = c .before .before .before .before .before .before .before .before .before .before .before .before .before .before .before in
-    ranks-laid _ _ (start .args .out .now) _ _ _ (read-stands (start .pre) .symbolCount) (c .before .before .before .before .before .before .before .before .before .before .rank-bits .ensures) (c .before .before .before .before .before .before .before .before .before .ranks-of .ensures)
-    (c .before .before .before .before .before .before .before .before .before .before .before .before .if1 .left) _ _ _ _ (c .before .before .before .before .before .before .before .before .first-not-decreasing .ensures) (c .before .before .before .before .before .before .accepted .ensures) (c .before .before .before .before .copy .ensures .1) (c .enum-told .given .1)
-
-same-length-2 : tie.Need-same-length-2
-same-length-2 c = search needs
-
 returns-3 : tie.Need-returns-3
 returns-3 c =
-    let start = c .before .before .before .before .before .before .before .before .before .before .before .before .before .before .before .before in
-    ranks-laid _ _ (start .args .out .now) _ _ _ (read-stands (start .pre) .symbolCount) (c .before .before .before .before .before .before .before .before .before .before .before .rank-bits .ensures) (c .before .before .before .before .before .before .before .before .before .before .ranks-of .ensures)
-    (c .before .before .before .before .before .before .before .before .before .before .before .before .before .if1 .left) _ _ _ _ (c .before .before .before .before .before .before .before .before .before .first-not-decreasing .ensures) (c .before .before .before .before .before .before .before .accepted .ensures) (c .before .before .before .before .before .copy .ensures .1) (c .before .verdict .given .1)
+    let start = c .before .before .before .before .before .before .before .before .before .before .before .before .before .before in
+    ranks-laid _ _ (start .args .out .now) _ _ _ (read-stands (start .pre) .symbolCount) (c .before .before .before .before .before .before .before .before .before .rank-bits .ensures) (c .before .before .before .before .before .before .before .before .ranks-of .ensures)
+    (c .before .before .before .before .before .before .before .before .before .before .before .if1 .left) _ _ (c .before .before .before .before .before .before .before .first-not-decreasing .ensures) (c .before .before .before .before .before .enum-told .given .1) (c .before .before .copy .ensures .1)
 
 pub checked-ranks-spec : {M : Type 1} → statement M
 checked-ranks-spec =
@@ -59,12 +53,10 @@ checked-ranks-spec =
     rank-bits-requires
     ranks-of-requires
     first-not-decreasing-requires
-    slice-aggregate-copy
-    accepted-requires
-    copy-requires
-    enum-told
     enum-known-verdict
-    same-length
+    enum-told
+    slice-aggregate-copy
+    copy-requires
     returns-2
-    same-length-2
+    same-length
     returns-3)
