@@ -3,6 +3,7 @@
 use Prim.Native.Nat.{ℕ}
 use mathlib.Core.Bool.{true, false}
 use mathlib.Core.List.{List, [], _∷_}
+use mathlib.Core.Path.{refl}
 use denote.Ref.{now}
 use lib.Dec.{eqb}
 use lib.ListN.{length}
@@ -192,11 +193,12 @@ argumentOfC =
     (λ call. [])
 
 unfoldable pub functionsOfC : List Function
+unfolding readBookOfC writeBlockOfC checkRanksOfC ranksFromAnswerOfC runOfC argumentOfC
 functionsOfC =
-    record { entry = countingABook; contract = readBookContractOfC; code = readBookOfC }
-    ∷ record { entry = aBlock; contract = writeBlockContractOfC; code = writeBlockOfC }
-    ∷ record { entry = checkingRanks; contract = checkRanksContractOfC; code = checkRanksOfC }
-    ∷ record { entry = ranksOfAnAnswer; contract = ranksFromAnswerContractOfC; code = ranksFromAnswerOfC }
-    ∷ record { entry = aRun; contract = runContractOfC; code = runOfC }
-    ∷ record { entry = anArgument; contract = argumentContractOfC; code = argumentOfC }
+    record { entry = countingABook; contract = readBookContractOfC; code = readBookOfC; calls = refl }
+    ∷ record { entry = aBlock; contract = writeBlockContractOfC; code = writeBlockOfC; calls = refl }
+    ∷ record { entry = checkingRanks; contract = checkRanksContractOfC; code = checkRanksOfC; calls = refl }
+    ∷ record { entry = ranksOfAnAnswer; contract = ranksFromAnswerContractOfC; code = ranksFromAnswerOfC; calls = refl }
+    ∷ record { entry = aRun; contract = runContractOfC; code = runOfC; calls = refl }
+    ∷ record { entry = anArgument; contract = argumentContractOfC; code = argumentOfC; calls = refl }
     ∷ []

@@ -1,7 +1,7 @@
 -- The functions of the code: which contract each entry point has, what is asked by what is handed over, and what is answered and left in the lent buffer.
 use Prim.Native.Nat.{ℕ, _+_}
 use mathlib.Core.List.{List, [], _∷_}
-use mathlib.Core.Path.{_≡_}
+use mathlib.Core.Path.{_≡_, refl}
 use denote.Ref.{now}
 use lib.ListN.{length}
 use Rattle.book.specs.Meaning.{meaning}
@@ -185,13 +185,14 @@ argumentInCode =
     (λ call. [])
 
 unfoldable pub functions : List Function
+unfolding readBookInCode writeBlockInCode checkRanksInCode ranksFromAnswerInCode runInCode argumentInCode
 functions =
-    record { entry = readingABook; contract = readBookContract; code = readBookInCode }
-    ∷ record { entry = aBlock; contract = writeBlockContract; code = writeBlockInCode }
-    ∷ record { entry = checkingRanks; contract = checkRanksContract; code = checkRanksInCode }
-    ∷ record { entry = ranksOfAnAnswer; contract = ranksFromAnswerContract; code = ranksFromAnswerInCode }
-    ∷ record { entry = aRun; contract = runContract; code = runInCode }
-    ∷ record { entry = anArgument; contract = argumentReplyContract; code = argumentInCode }
+    record { entry = readingABook; contract = readBookContract; code = readBookInCode; calls = refl }
+    ∷ record { entry = aBlock; contract = writeBlockContract; code = writeBlockInCode; calls = refl }
+    ∷ record { entry = checkingRanks; contract = checkRanksContract; code = checkRanksInCode; calls = refl }
+    ∷ record { entry = ranksOfAnAnswer; contract = ranksFromAnswerContract; code = ranksFromAnswerInCode; calls = refl }
+    ∷ record { entry = aRun; contract = runContract; code = runInCode; calls = refl }
+    ∷ record { entry = anArgument; contract = argumentReplyContract; code = argumentInCode; calls = refl }
     ∷ []
 
 -- `argument` hands out the part itself.

@@ -47,11 +47,12 @@ pub record DemandedInCode {e : EntryPoint} (code : InCode e) : Type 0 where
   pub replies : (call : code .Call) → ResultOrRefusal (e .numbers) (code .answered call)
   pub untouched : (call : code .Call) (r : Refusal) → code .answered call ≡ refused r → code .after call ≡ code .before call
 
--- The functions of the code, each with its entry point.
+-- The functions of the code, each with its entry point; the calls are those that the contract allows.
 pub record Function : Type 3 where
   pub entry : EntryPoint
   pub contract : Contract
   pub code : InCode entry
+  pub calls : code .Call ≡ Allowed contract
 
 unfoldable pub entriesOf : List Function → List EntryPoint
 entriesOf [] = []
