@@ -8,11 +8,13 @@
 //     c   check ranks: the book, the ranks
 //     a   ranks from an answer: the book, the answer
 //     r   run: the book, the ranks, the record; NUMBER is the budget
+//     n   the next step: the book, the ranks, the record
 //     q   argument question: the book, nothing, the record; NUMBER is the argument's, from 0
-//     s   show the book's rules: the book
+//     s   the book's symbols and rules: the book
 //
 // A reply is the one line `refused N at P`, or the lines of its call in replies.rt. Another letter is answered by the line `not a request`;
-// so is a header without its four numbers, and that is the end.
+// so is a header without its four numbers, and that is the end. Where the input ends before all bytes of a request's parts have come, the
+// line `cut off` says so, and there is no reply.
 mod parts;
 mod replies;
 
@@ -20,16 +22,6 @@ use libc::STDIN_FILENO;
 use libc::STDOUT_FILENO;
 use words::Number;
 use words::grown;
-
-// The call's letter, 0 at the end of the input; the request's number, the lengths of its parts, and whether all of them were there.
-struct Header {
-    call: u8,
-    number: usize,
-    book: usize,
-    text: usize,
-    record: usize,
-    whole: bool,
-}
 
 // The next byte, 0 at the end of the input.
 fn byte() -> u8 {
@@ -59,41 +51,10 @@ fn read_number() -> Number {
     Number::Missing
 }
 
-// A header of which only the letter can be used.
-fn broken(call: u8) -> Header {
-    Header {
-        call,
-        number: 0,
-        book: 0,
-        text: 0,
-        record: 0,
-        whole: false,
-    }
-}
-
-fn read_header() -> Header {
-    let call = byte();
-    byte();
-    let Number::Is(number) = read_number() else {
-        return broken(call);
-    };
-    let Number::Is(book) = read_number() else {
-        return broken(call);
-    };
-    let Number::Is(text) = read_number() else {
-        return broken(call);
-    };
-    let Number::Is(record) = read_number() else {
-        return broken(call);
-    };
-    Header {
-        call,
-        number,
-        book,
-        text,
-        record,
-        whole: true,
-    }
+// What is no request ends the input.
+fn not_a_request() -> bool {
+    io::write_all(STDOUT_FILENO, b"not a request\n");
+    false
 }
 
 // Writes the reply to a call on these parts. The longest, of a full book's rules, has fewer than 8,192 bytes.
@@ -103,38 +64,51 @@ fn answer(call: u8, number: usize, book: &[u8], text: &[u8], record: &[u8]) {
     io::write_all(STDOUT_FILENO, &out[..n]);
 }
 
-// Answers the request whose header was read. Of each part only the first bytes are kept: one byte more than any book, answer or record
-// that is taken has. What lies behind them changes no reply. A book of more than 1,345 bytes is refused at a record that stands within its
-// first 1,346 (clause_file's proofs/LongestBook). An answer of more than 65,536 bytes is refused by 12, ranks as many as that by 7, a
-// record of more than 513 by 11, whatever the bytes are.
-fn answer_to(header: Header) {
+// Answers the request whose parts have these lengths; whether all of them came. Of each part only the first bytes are kept: one byte more
+// than any book, answer or record that is taken has. What lies behind them changes no reply. A book of more than 1,345 bytes is refused at
+// a record that stands within its first 1,346 (clause_file's proofs/LongestBook). An answer of more than 65,536 bytes is refused by 12,
+// ranks as many as that by 7, a record of more than 513 by 11, whatever the bytes are.
+fn answer_to(call: u8, number: usize, book: usize, text: usize, record: usize) -> bool {
     let mut book_space = [0u8; 1346];
     let mut text_space = [0u8; 65537];
     let mut record_space = [0u8; 514];
-    let b = parts::read_part(header.book, &mut book_space);
-    let t = parts::read_part(header.text, &mut text_space);
-    let r = parts::read_part(header.record, &mut record_space);
+    let b = parts::read_part(book, &mut book_space);
+    let t = parts::read_part(text, &mut text_space);
+    let r = parts::read_part(record, &mut record_space);
+    if !b.whole || !t.whole || !r.whole {
+        io::write_all(STDOUT_FILENO, b"cut off\n");
+        return false;
+    }
     answer(
-        header.call,
-        header.number,
-        &book_space[..b],
-        &text_space[..t],
-        &record_space[..r],
+        call,
+        number,
+        &book_space[..b.laid],
+        &text_space[..t.laid],
+        &record_space[..r.laid],
     );
+    true
 }
 
 // One request; whether the input goes on behind it.
 fn request() -> bool {
-    let header = read_header();
-    if header.call == 0 {
+    let call = byte();
+    if call == 0 {
         return false;
     }
-    if !header.whole {
-        io::write_all(STDOUT_FILENO, b"not a request\n");
-        return false;
-    }
-    answer_to(header);
-    true
+    byte();
+    let Number::Is(number) = read_number() else {
+        return not_a_request();
+    };
+    let Number::Is(book) = read_number() else {
+        return not_a_request();
+    };
+    let Number::Is(text) = read_number() else {
+        return not_a_request();
+    };
+    let Number::Is(record) = read_number() else {
+        return not_a_request();
+    };
+    answer_to(call, number, book, text, record)
 }
 
 // A proved loop has to end, and nothing says that the input does: the turns are counted down from a number that no run uses up.

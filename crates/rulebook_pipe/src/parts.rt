@@ -3,6 +3,12 @@ use libc::STDIN_FILENO;
 ghost use Prim.Native.Nat.{_≤_};
 ghost use Rattle.io.specs.Counts.{Counts};
 
+// How many bytes of a part were laid, and whether all of it came.
+pub struct Part {
+    pub laid: usize,
+    pub whole: bool,
+}
+
 // Reads at most `most` bytes, and as many as `space` holds, and answers how many it laid there.
 fn read_within(most: usize, space: &mut [u8]) -> usize
     ensures within { λ r. ⌜ r ≤ most ⌝ }
@@ -14,31 +20,25 @@ fn read_within(most: usize, space: &mut [u8]) -> usize
     io::read_full(STDIN_FILENO, space)
 }
 
-// Passes over at most `left` bytes, and answers how many; 0 at the end of the input.
-fn pass_some(left: usize) -> usize
-    ensures { λ r. ⌜ r ≤ left ⌝ }
-{
+// Passes over so many bytes, and answers whether they came.
+fn pass_over(length: usize) -> bool {
     let mut space = io::buffer();
-    read_within(left, &mut space)
-}
-
-fn pass_over(length: usize) {
     let mut left = length;
     while 0 < left {
-        let passed = pass_some(left);
+        let passed = read_within(left, &mut space);
         if passed == 0 {
-            return;
+            return false;
         }
         left -= passed;
     }
+    true
 }
 
-// Reads the next part, of so many bytes. Its first bytes are laid into `space`, as many as it holds, and the others are passed over; how
-// many were laid.
-pub fn read_part(length: usize, space: &mut [u8]) -> usize
-    ensures { λ r. ⌜ Counts r (now (space .exit)) ⌝ }
+// Reads the next part, of so many bytes. Its first bytes are laid into `space`, as many as it holds, and the others are passed over.
+pub fn read_part(length: usize, space: &mut [u8]) -> Part
+    ensures { λ r. ⌜ Counts (r .laid) (now (space .exit)) ⌝ }
 {
     let laid = read_within(length, space);
-    pass_over(length - laid);
-    laid
+    let whole = pass_over(length - laid);
+    Part { laid, whole }
 }

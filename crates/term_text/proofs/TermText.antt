@@ -14,7 +14,7 @@ use Rattle.term.specs.At.{At, ArgsAt, variableAt, symbolAt, noneAt, andAt}
 use Rattle.term.proofs.At.{at-root, args-first, args-none}
 use Rattle.term.proofs.Nodes.{symbol-node, variable-node}
 use Rattle.term_text.specs.TermText.{nameText, termText, bracketed, laterText, argumentsText, LaysTerm, LaysArguments}
-use Rattle.term_text.specs.declared.terms.Texted.{Texted}
+use Rattle.term_text.specs.declared.Texted.{Texted}
 
 -- Behind a comma the arguments go on; behind the opening bracket they begin.
 after-comma : (ts : Args) → argumentsText 44 ts ≡ laterText ts

@@ -8,8 +8,8 @@ use Rattle.text.specs.Text.{ascii}
 use Rattle.term.specs.Term.{Term, Args, var, app, nil, cons}
 use Rattle.term.specs.Prefix.{Node, symbolic, variable}
 use Rattle.term.specs.At.{At, ArgsAt}
-use Rattle.term_text.specs.Numbers.{counted}
-use Rattle.term_text.specs.declared.terms.Texted.{Texted}
+use Rattle.number_text.specs.Numbers.{counted}
+use Rattle.term_text.specs.declared.Texted.{Texted}
 
 -- A node's name.
 unfoldable pub nameText : Node → List ℕ

@@ -1,82 +1,91 @@
-// Numbers, bytes and terms as text. Each function lays its text onto the start of the buffer that is lent to it, as far as it fits, and
-// answers how many bytes it laid.
-pub mod terms;
-
+// Terms as text: `f2(f0,x1)` for symbol 2 over symbol 0 and variable 1.
+use number_text::write_counted;
 use text::wide;
 use text::writing::write_byte;
-use text::writing::write_decimal;
-use text::writing::write_text;
-ghost use Prim.Native.Nat.{_<_};
 ghost use mathlib.Core.Path.{_≡_};
-ghost use lib.ListN.{take};
 ghost use Rattle.text.specs.Laying.{Lays};
-ghost use Rattle.text.specs.Text.{ascii};
-ghost use Rattle.term_text.specs.Numbers.{counted, numbersText, hexDigit, hexOf, hexText};
+ghost use Rattle.term.specs.Prefix.{nodeOf, arityOf};
+ghost use Rattle.term_text.specs.TermText.{nameText, LaysTerm, LaysArguments};
 
-// A word and a number behind it.
-pub fn write_counted(word: &[u8], n: usize, out: &mut [u8]) -> usize
-    ensures { λ r. ⌜ Lays (counted (now (word .entry)) n) (now (out .entry)) r (now (out .exit)) ⌝ }
-{
-    let at = write_text(word, out);
-    at + write_decimal(n, &mut out[at..])
+// How many bytes of text were laid, and the place behind what they tell.
+pub struct Texted {
+    pub laid: usize,
+    pub next: usize,
 }
 
-// A byte as a decimal number, a blank before it.
-fn write_number(byte: u8, out: &mut [u8]) -> usize
-    ensures { λ r. ⌜ Lays (counted (ascii " ") byte) (now (out .entry)) r (now (out .exit)) ⌝ }
+// How many arguments a node has: those of its symbol, none of a variable.
+fn arguments(arities: [u8; 16], kind: u8, body: u8) -> u8
+    ensures { λ r. ⌜ r ≡ arityOf arities (nodeOf kind body) ⌝ }
 {
-    write_counted(b" ", wide(byte), out)
-}
-
-// The first `many` bytes as decimal numbers, a blank before each.
-pub fn write_numbers(bytes: &[u8], many: usize, out: &mut [u8]) -> usize
-    ensures { λ r. ⌜ Lays (numbersText (take many (now (bytes .entry)))) (now (out .entry)) r (now (out .exit)) ⌝ }
-{
-    let mut at = 0;
-    let mut i = 0;
-    while i < many {
-        if bytes.len() <= i {
-            return at;
-        }
-        at += write_number(bytes[i], &mut out[at..]);
-        i += 1;
+    if kind != 3 {
+        return 0;
     }
-    at
+    let symbol = wide(body);
+    if symbol < 16 {
+        return arities[symbol];
+    }
+    0
 }
 
-// A hexadecimal digit.
-fn hex_digit(d: usize) -> u8
-    requires { ⌜ d < 16 ⌝ }
-    ensures { λ r. ⌜ r ≡ hexDigit d ⌝ }
+fn write_name(kind: u8, body: u8, out: &mut [u8]) -> usize
+    ensures { λ r. ⌜ Lays (nameText (nodeOf kind body)) (now (out .entry)) r (now (out .exit)) ⌝ }
 {
-    if d < 10 {
-        (48 + d) as u8
-    } else {
-        (87 + d) as u8
+    if kind == 3 {
+        return write_counted(b"f", wide(body), out);
+    }
+    write_counted(b"x", wide(body), out)
+}
+
+// So many arguments, the byte `mark` before the first, a comma before each other and the closing bracket behind them.
+fn write_arguments(
+    bytes: &[u8],
+    arities: [u8; 16],
+    u: usize,
+    many: u8,
+    mark: u8,
+    out: &mut [u8],
+) -> Texted
+    ensures { λ r. ⌜ LaysArguments (now (bytes .entry)) arities many mark u (now (out .entry)) r (now (out .exit)) ⌝ }
+{
+    if many == 0 {
+        return Texted {
+            laid: write_byte(b')', out),
+            next: u,
+        };
+    }
+    let start = write_byte(mark, out);
+    let first = write_term(bytes, arities, u, &mut out[start..]);
+    let at = start + first.laid;
+    let others = write_arguments(bytes, arities, first.next, many - 1, b',', &mut out[at..]);
+    Texted {
+        laid: at + others.laid,
+        next: others.next,
     }
 }
 
-// A byte in hexadecimal, two digits.
-fn write_hex_byte(byte: u8, out: &mut [u8]) -> usize
-    ensures { λ r. ⌜ Lays (hexOf byte) (now (out .entry)) r (now (out .exit)) ⌝ }
+// The term that stands at this place. Nothing is laid where the bytes end.
+pub fn write_term(bytes: &[u8], arities: [u8; 16], u: usize, out: &mut [u8]) -> Texted
+    ensures { λ r. ⌜ LaysTerm (now (bytes .entry)) arities u (now (out .entry)) r (now (out .exit)) ⌝ }
 {
-    let value = wide(byte);
-    let at = write_byte(hex_digit(value / 16), out);
-    at + write_byte(hex_digit(value % 16), &mut out[at..])
-}
-
-// The first `many` bytes in hexadecimal, two digits each.
-pub fn write_hex(bytes: &[u8], many: usize, out: &mut [u8]) -> usize
-    ensures { λ r. ⌜ Lays (hexText (take many (now (bytes .entry)))) (now (out .entry)) r (now (out .exit)) ⌝ }
-{
-    let mut at = 0;
-    let mut i = 0;
-    while i < many {
-        if bytes.len() <= i {
-            return at;
-        }
-        at += write_hex_byte(bytes[i], &mut out[at..]);
-        i += 1;
+    if bytes.len() <= u {
+        return Texted { laid: 0, next: u };
     }
-    at
+    if bytes.len() - u < 2 {
+        return Texted { laid: 0, next: u };
+    }
+    let kind = bytes[u];
+    let body = bytes[u + 1];
+    let at = write_name(kind, body, out);
+    let many = arguments(arities, kind, body);
+    if many == 0 {
+        return Texted {
+            laid: at,
+            next: u + 2,
+        };
+    }
+    let rest = write_arguments(bytes, arities, u + 2, many, b'(', &mut out[at..]);
+    Texted {
+        laid: at + rest.laid,
+        next: rest.next,
+    }
 }

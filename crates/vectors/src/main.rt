@@ -1,13 +1,9 @@
 // The examples of document 01 that are run, and its edges. The rows stand in the file `stdin`; the file `stdout` shows each with its reply
 // and was written by hand from document 01.
-mod lent;
-mod ranking;
-mod reading;
-mod rewriting;
+mod calls;
+mod fields;
 mod rows;
 mod show;
-mod words;
-mod writing;
 
 use libc::STDIN_FILENO;
 

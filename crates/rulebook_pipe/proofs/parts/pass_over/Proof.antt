@@ -1,19 +1,27 @@
 -- It ends: fewer bytes are left at each turn. Assumes nothing.
+use mathlib.Core.Path.{_≡_}
 use borrow.Author.Needs.{needs}
+use lib.ListN.{length}
 use Rattle.rulebook_pipe.proofs.parts.pass_over.Statement.{statement}
 use Rattle.rulebook_pipe.proofs.parts.pass_over.Tie as tie
 
 abbrev Inv-loop : tie.InvT-loop
-Inv-loop length left₀ left = Unit {0}
+Inv-loop promised space₀ left₀ space left = length space ≡ 4096
 
 abbrev μ-loop : tie.MeasureT-loop
-μ-loop length left₀ left = left
+μ-loop promised space₀ left₀ space left = left
+
+buffer-requires : tie.Need-buffer-requires Inv-loop μ-loop
+buffer-requires c κs = search needs
 
 loop-holds : tie.Need-loop-holds Inv-loop μ-loop
 loop-holds c = search needs
 
-pass-some-requires : tie.Need-pass-some-requires Inv-loop μ-loop
-pass-some-requires c κs = search needs
+slice-aggregate-read-within : tie.Need-slice-aggregate-read-within Inv-loop μ-loop
+slice-aggregate-read-within c = search needs
+
+read-within-requires : tie.Need-read-within-requires Inv-loop μ-loop
+read-within-requires c κs = search needs
 
 returns : tie.Need-returns Inv-loop μ-loop
 returns c = search needs
@@ -36,8 +44,10 @@ pass-over-spec =
     (tie.spec
     Inv-loop
     μ-loop
+    buffer-requires
     loop-holds
-    pass-some-requires
+    slice-aggregate-read-within
+    read-within-requires
     returns
     sub-left
     loop-less

@@ -1,16 +1,16 @@
--- `vectors::rows::show_all` ends: `at` passes over the lines. Assumes nothing.
-use Prim.Native.Nat.{_≤_, _-_}
+-- `rows::show_all` ends: `at` passes over the lines. Assumes nothing.
 use mathlib.Core.Path.{_≡_}
 use lib.ListN.{length}
 use borrow.Author.Needs.{needs}
+use Prim.Native.Nat.{_-_}
 use Rattle.vectors.proofs.rows.show_all.Statement.{statement}
 use Rattle.vectors.proofs.rows.show_all.Tie as tie
 
 abbrev Inv-loop : tie.InvT-loop
-Inv-loop rows book₀ size₀ at₀ book size at = length book ≡ length book₀
+Inv-loop rows book₀ size₀ at₀ t6 book size at = length book ≡ length book₀
 
 abbrev μ-loop : tie.MeasureT-loop
-μ-loop rows book₀ size₀ at₀ book size at = length rows - at
+μ-loop rows book₀ size₀ at₀ t6 book size at = length rows - at
 
 loop-holds : tie.Need-loop-holds Inv-loop μ-loop
 loop-holds c = search needs
@@ -48,6 +48,12 @@ slice-aggregate-show-row c = search needs
 show-row-requires : tie.Need-show-row-requires Inv-loop μ-loop
 show-row-requires c κs = search needs
 
+slice-aggregate-text : tie.Need-slice-aggregate-text Inv-loop μ-loop
+slice-aggregate-text c = search needs
+
+text-requires : tie.Need-text-requires Inv-loop μ-loop
+text-requires c κs = search needs
+
 add-at : tie.Need-add-at Inv-loop μ-loop
 add-at c = search needs
 
@@ -81,6 +87,8 @@ show-all-spec =
     slice-reshare-prefix-show-row
     slice-aggregate-show-row
     show-row-requires
+    slice-aggregate-text
+    text-requires
     add-at
     loop-less
     loop-again

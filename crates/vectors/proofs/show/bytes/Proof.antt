@@ -1,15 +1,15 @@
--- `vectors::show::bytes` ends: `i` counts up to the number of bytes. Assumes nothing.
-use Prim.Native.Nat.{_≤_, _-_}
+-- `show::bytes` ends: `i` counts up to the number of bytes. Assumes nothing.
 use lib.ListN.{length}
 use borrow.Author.Needs.{needs}
+use Prim.Native.Nat.{_≤_, _-_}
 use Rattle.vectors.proofs.show.bytes.Statement.{statement}
 use Rattle.vectors.proofs.show.bytes.Tie as tie
 
 abbrev Inv-loop : tie.InvT-loop
-Inv-loop bytes i₀ i = i ≤ length bytes
+Inv-loop buffer many i₀ i = i ≤ length buffer
 
 abbrev μ-loop : tie.MeasureT-loop
-μ-loop bytes i₀ i = length bytes - i
+μ-loop buffer many i₀ i = length buffer - i
 
 slice-aggregate-text : tie.Need-slice-aggregate-text Inv-loop μ-loop
 slice-aggregate-text c = search needs
@@ -17,11 +17,11 @@ slice-aggregate-text c = search needs
 text-requires : tie.Need-text-requires Inv-loop μ-loop
 text-requires c κs = search needs
 
-returns : tie.Need-returns Inv-loop μ-loop
-returns c = search needs
-
 loop-holds : tie.Need-loop-holds Inv-loop μ-loop
 loop-holds c = search needs
+
+returns : tie.Need-returns Inv-loop μ-loop
+returns c = search needs
 
 shared-slice-read-wide : tie.Need-shared-slice-read-wide Inv-loop μ-loop
 shared-slice-read-wide c = search needs
@@ -52,8 +52,8 @@ bytes-spec =
     μ-loop
     slice-aggregate-text
     text-requires
-    returns
     loop-holds
+    returns
     shared-slice-read-wide
     wide-requires
     print-hex-requires

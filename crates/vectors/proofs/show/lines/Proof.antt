@@ -1,18 +1,21 @@
--- `vectors::show::lines` ends: `at` passes over the lines. Assumes nothing.
-use Prim.Native.Nat.{_-_}
+-- `show::lines` ends: `at` passes over the lines. Assumes nothing.
 use lib.ListN.{length}
 use borrow.Author.Needs.{needs}
+use Prim.Native.Nat.{_-_}
 use Rattle.vectors.proofs.show.lines.Statement.{statement}
 use Rattle.vectors.proofs.show.lines.Tie as tie
 
 abbrev Inv-loop : tie.InvT-loop
-Inv-loop bytes at₀ t4 at = Unit {0}
+Inv-loop buffer many at₀ t5 at = Unit {0}
 
 abbrev μ-loop : tie.MeasureT-loop
-μ-loop bytes at₀ t4 at = length bytes - at
+μ-loop buffer many at₀ t5 at = length buffer - at
 
 loop-holds : tie.Need-loop-holds Inv-loop μ-loop
 loop-holds c = search needs
+
+returns : tie.Need-returns Inv-loop μ-loop
+returns c = search needs
 
 next-requires : tie.Need-next-requires Inv-loop μ-loop
 next-requires c κs = search needs
@@ -44,8 +47,8 @@ loop-less c = search needs
 loop-again : tie.Need-loop-again Inv-loop μ-loop
 loop-again c = search needs
 
-returns : tie.Need-returns Inv-loop μ-loop
-returns c = search needs
+returns-2 : tie.Need-returns-2 Inv-loop μ-loop
+returns-2 c = search needs
 
 pub lines-spec : {M : Type 1} → statement M
 lines-spec =
@@ -54,6 +57,7 @@ lines-spec =
     Inv-loop
     μ-loop
     loop-holds
+    returns
     next-requires
     sub-text
     part-text-start
@@ -64,4 +68,4 @@ lines-spec =
     add-at
     loop-less
     loop-again
-    returns)
+    returns-2)
