@@ -39,11 +39,13 @@ book (file, bytes, sha256), sheet, older_ranks.
 Has the proved check decide whether the ranks, one byte a symbol, make every rule decrease. It says so if RANKS.of shows that
 they were made for another book. JSON: result, ranks, order, ranks_of (this book, another book, changed, not known), book.
 """),
-    "run": Command(("BOOK", "RANKS", "RECORD"), ("--budget",), "runs a record under a book that the ranks clear", """\
+    "run": Command(("BOOK", "RANKS", "RECORD"), ("--budget", "--trace"), "runs a record under a book that the ranks clear", """\
 Applies rules to the record until none fits. `done`: none fits any more (status 0). `spent`: the budget is used and a rule
 still fits (status 3). `too large`: the next term would have more than 256 nodes (status 4).
       --budget STEPS     at most so many (1000000)
-JSON: result, steps, nodes, term, bytes, ranks_of, book.
+      --trace            before that, for each step the term and `step rule R at P`: rule R was applied to the subterm whose
+                         first byte is byte P of the term's record
+JSON: result, steps, nodes, term, bytes, ranks_of, book, and with --trace trace (term, rule, place).
 """),
     "argument": Command(("BOOK", "RECORD", "NUMBER"), (), "argument NUMBER, from 0, of the record's root", """\
 Prints where argument NUMBER, from 0, of the record's root starts, and the argument. JSON: result, start, nodes, term, bytes, book.
@@ -74,6 +76,9 @@ Reads the s and v lines that a solver printed for the book's clause file, and go
     "refusals": Command((), (), "every refusal: what it means, and what to do", "Prints every refusal: what it means, and what to do.\n"),
 }
 
+# Options without a value.
+FLAGS = ("--trace",)
+
 HEAD = "rulebook: clears rule books, and runs records under them\n"
 FOOT = """
   help [COMMAND], COMMAND --help, --version
@@ -94,7 +99,7 @@ def overview():
 
 def help_on(name):
     command = COMMANDS[name]
-    words = " ".join((name, *command.words, *(f"[{option} ..]" for option in command.options), "[--json]"))
+    words = " ".join((name, *command.words, *(f"[{option}]" if option in FLAGS else f"[{option} ..]" for option in command.options), "[--json]"))
     return f"rulebook {words}\n\n{command.help}"
 
 
@@ -131,6 +136,11 @@ def _taken(name, words):
             option, has_value, value = word.partition("=")
             if option not in command.options:
                 raise misused(f"{name} takes no option {option}")
+            if option in FLAGS:
+                if has_value:
+                    raise misused(f"{option} takes no value")
+                options[option] = True
+                continue
             if not has_value:
                 value = next(words, None)
                 if value is None:

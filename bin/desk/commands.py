@@ -8,6 +8,9 @@ import stat
 from desk import files, replies, sheet, solvers, source
 from desk.ends import DONE, REFUSED, SPENT, TOO_LARGE, End, broken, signals_wait
 
+# A trace asks for so many terms by one start of the program.
+TRACED_TOGETHER = 100
+
 RESTS = "the ranks make every rule decrease: every record comes to rest"
 
 
@@ -209,6 +212,8 @@ class Desk:
         ranks = self._read_ranks(words[1], book)
         record = files.read(words[2])
         reply, parts = self._ask("r", number=options["--budget"], book=book.data, text=ranks.data, record=record.data)
+        if "--trace" in options:
+            self._trace(parts["steps"], book=book.data, text=ranks.data, record=record.data)
         self.page.show(reply, **parts)
         status, sentence = {
             "done": (DONE, "no rule fits any more"),
@@ -217,6 +222,23 @@ class Desk:
         }[parts["result"]]
         self.page.say(sentence)
         return status
+
+    def _trace(self, steps, record, **parts):
+        """Each term before a step is that of a run with a smaller budget; the program tells the rule and the place that the step takes."""
+        trace = []
+        while len(trace) < steps:
+            budgets = range(min(TRACED_TOGETHER, steps - len(trace)) + 1)
+            ran = self.programs.ask_all([("r", {"number": budget, "record": record, **parts}) for budget in budgets])
+            terms = replies.all_taken_apart("r", len(budgets), ran)
+            records = [bytes.fromhex(term["bytes"]) for term in terms]
+            told = self.programs.ask_all([("n", {"record": each, **parts}) for each in records[:-1]])
+            for term, step, line in zip(terms, replies.all_taken_apart("n", len(records) - 1, told), told.splitlines(keepends=True)):
+                if "rule" not in step:
+                    raise broken("the program's replies do not agree: a step was made, and the next question has none")
+                self.page.show(f"term {term['term']}\n".encode() + line)
+                trace.append({"term": term["term"], "rule": step["rule"], "place": step["at"]})
+            record = records[-1]
+        self.page.show(b"", trace=trace)
 
     def argument(self, words, _options):
         book = self._read_book(words[0])

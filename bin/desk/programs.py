@@ -183,10 +183,13 @@ class Programs:
             raise broken(f"the program {name} did not end well (status {status})")
         return bytes(reply.text)
 
-    def ask(self, call, number=0, book=b"", text=b"", record=b""):
+    def ask(self, call, **parts):
         """rulebook_pipe's reply, as it printed it."""
-        head = f"{call} {number} {len(book)} {len(text)} {len(record)}\n".encode()
-        return self._run("rulebook_pipe", head + book + text + record)
+        return self.ask_all([(call, parts)])
+
+    def ask_all(self, requests):
+        """The replies to several requests, one behind the other."""
+        return self._run("rulebook_pipe", b"".join(_request(call, **parts) for call, parts in requests))
 
     def clause_file(self, book):
         """clause_file's output, whole: its header says how many lines follow."""
@@ -195,6 +198,10 @@ class Programs:
         if header and file.count(b"\n") != int(header.group(1)) + 1:
             raise broken("the program clause_file stopped midway")
         return file
+
+
+def _request(call, number=0, book=b"", text=b"", record=b""):
+    return f"{call} {number} {len(book)} {len(text)} {len(record)}\n".encode() + book + text + record
 
 
 class _Lines:

@@ -9,21 +9,39 @@ FORMS = {
     "c": r"(?P<result>cleared)\n",
     "a": r"(?P<result>cleared)\nranks(?P<ranks>( \d+)*)\n",
     "r": r"(?P<result>done|spent|too large)\nsteps (?P<steps>\d+)\n" + TERM,
+    "n": r"at rest\n|step rule (?P<rule>\d+) at (?P<at>\d+)\n",
     "q": r"start (?P<start>\d+)\n" + TERM,
     "s": r"symbols(?P<symbols>( f\d+/\d+)*)\nrules (?P<count>\d+)\n(?P<rules>(rule \d+: .* -> .*\n)*)",
     "clause_file": r"(?P<header>p cnf (?P<variables>\d+) (?P<clauses>\d+))\n(?s:.*)",
 }
 REFUSED = r"refused (?P<number>\d+) at (?P<place>\d+)\n"
+CUT_OFF = "cut off\n"
+NUMBERS = ("number", "place", "steps", "nodes", "rule", "at", "start", "count", "variables", "clauses")
 
 
 def taken_apart(call, reply):
     """The named parts of a reply; those of a refusal are `number` and `place`."""
-    text = reply.decode("ascii", "replace")
-    found = re.fullmatch(REFUSED, text) or re.fullmatch(FORMS[call], text)
-    if not found:
-        raise broken(f"the program's reply has no form that is known: {text[:80]!r}")
-    parts = found.groupdict()
-    for name in ("number", "place", "steps", "nodes", "start", "count", "variables", "clauses"):
+    [parts] = all_taken_apart(call, 1, reply)
+    return parts
+
+
+def all_taken_apart(call, many, reply):
+    """The named parts of each of so many replies to one call, one behind the other."""
+    text, found, at = reply.decode("ascii", "replace"), [], 0
+    for left in range(many, 0, -1):
+        form = re.compile(f"(?:{REFUSED}|{FORMS[call]})" + (r"\Z" if left == 1 else ""))
+        one = form.match(text, at)
+        if not one:
+            if text.endswith(CUT_OFF):
+                raise broken("the program did not get all that it was sent")
+            raise broken(f"the program's reply has no form that is known: {text[at:at + 80]!r}")
+        found.append(_parts({name: value for name, value in one.groupdict().items() if value is not None}))
+        at = one.end()
+    return found
+
+
+def _parts(parts):
+    for name in NUMBERS:
         if name in parts:
             parts[name] = int(parts[name])
     if "ranks" in parts:

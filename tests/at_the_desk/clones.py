@@ -46,6 +46,8 @@ def replies():
         room.home = make_release(room, rulebook_pipe='read -r head\ncat >/dev/null\n'
                                  'case $head in c*) echo refused 8 at 99 ;; *) printf "symbols\\nrules 0\\n" ;; esac\n')
         room.expect(2, "", "a fault of the desk itself: IndexError('list index out of range')", "check", "addition.book", "ordered", **scripts)
+        room.home = make_release(room, rulebook_pipe="cat >/dev/null\necho cut off\n")
+        room.expect(2, "", "the program did not get all that it was sent", "check", "addition.book", "ordered", **scripts)
         room.home = make_release(room, clause_file="cat >/dev/null; printf 'p cnf 12 21\\n-3 1 0\\n'\n")
         room.expect(2, "", "the program clause_file stopped midway", "clauses", "addition.book", **scripts)
         room.expect(2, "", "the program clause_file stopped midway", "clear", "addition.book", "--solver", "./tells", **scripts)
@@ -55,6 +57,10 @@ def replies():
         kept = "the ranks were spoilt on the way from the answer; nothing was written"
         room.expect(2, "", kept, "answer", "one_rule.book", "good", **scripts)
         room.expect(2, "", kept, "answer", "-", "good", given=room.read("one_rule.book"), **scripts)
+        room.home = make_release(room, rulebook_pipe='read -r head\ncase $head in n*) cat >/dev/null; echo at rest; echo at rest ;;\n'
+                                 f'*) {{ printf "%s\\n" "$head"; cat; }} | {proved} ;;\nesac\n')
+        room.expect(2, "", "the program's replies do not agree: a step was made, and the next question has none",
+                    "run", "addition.book", "ordered", "addition.record", "--trace", **scripts)
         room.home = make_release(room, rulebook_pipe="dd bs=1 count=3 >/dev/null 2>&1; echo cleared\n")
         room.expect(0, "cleared", ORDER_LAST, "check", "addition.book", "ordered", **scripts)
 

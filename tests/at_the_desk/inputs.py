@@ -5,7 +5,7 @@ import pty
 import subprocess
 import time
 
-from at_the_desk.room import ELEVEN, FOURTEEN, HOME, HOW, ORDER_LAST, SECONDS, SEVEN, THIRTEEN, TWELVE, Room, compare, holds
+from at_the_desk.room import ELEVEN, FOURTEEN, HOME, HOW, ORDER_LAST, SECONDS, SEVEN, THIRTEEN, TWELVE, Room, compare, emulator, holds
 
 
 def inputs():
@@ -88,6 +88,7 @@ def ranks():
         room.expect(0, "done", "no rule fits any more", "run", "addition.book", "ordered", "addition.record", "--budget", "18446744073709551615")
         room.expect(4, "too large", "the next term would have more than 256 nodes",
                     "run", "--budget", "10", "doubling.book", "doubling.ranks", "doubling.record")
+        traced(room)
         for record in ("variable", "nothing", "zeros"):
             room.expect(1, "refused 11 at 0", ELEVEN, "run", "addition.book", "ordered", record)
         room.expect(1, "refused 11 at 0", ELEVEN, "argument", "addition.book", "variable", "0")
@@ -97,6 +98,25 @@ def ranks():
         ran = room.expect(0, "done", "no rule fits any more", "run", "ackermann.book", "ackermann.ranks", "a_3_4")
         compare("no progress where there is no terminal", 1, len(ran.sentences))
         on_terminal(room)
+
+
+def traced(room):
+    """Each term with the rule and the place of the step that it takes; then the reply of the run."""
+    addition = ("run", "addition.book", "ordered", "addition.record")
+    steps = ["term f2(f1(f0),f0)", "step rule 1 at 0", "term f1(f2(f0,f0))", "step rule 0 at 2"]
+    ran = room.expect(0, steps[0], "no rule fits any more", *addition, "--trace")
+    compare("--trace: its lines", steps + room.use(*addition).out.splitlines(), ran.out.splitlines())
+    ran = room.expect(3, steps[0], "the budget, 1, is used and a rule still fits; --budget gives it more", *addition, "--trace", "--budget", "1")
+    compare("--trace: steps that were made", steps[:2] + ["spent"], ran.out.splitlines()[:3])
+    room.expect(3, "spent", "the budget, 0, is used and a rule still fits; --budget gives it more", *addition, "--trace", "--budget", "0")
+    room.expect(4, "term f1(f1(f1(f1(f1(f1(f1(f1(f1(f0)))))))))", "the next term would have more than 256 nodes",
+                "run", "doubling.book", "doubling.ranks", "doubling.record", "--trace")
+    room.expect(1, "refused 11 at 0", ELEVEN, "run", "addition.book", "ordered", "variable", "--trace")
+    ackermann = ("run", "ackermann.book", "ackermann.ranks", "a_3_4")
+    lines = room.use(*ackermann, "--trace", "--budget", "250").out.splitlines()
+    compare("a longer --trace: as many steps as were made", 250, sum(line.startswith("step rule ") for line in lines))
+    for made in (0, 99, 100, 101, 249):
+        compare(f"a longer --trace: the term after {made} steps", room.use(*ackermann, "--budget", str(made)).out.splitlines()[3], lines[2 * made])
 
 
 def on_terminal(room):
@@ -134,3 +154,13 @@ def requests():
     made = subprocess.run([os.path.join(crate, "make-stdin")], cwd=HOME, stdout=subprocess.PIPE, timeout=SECONDS, check=False)
     with open(os.path.join(crate, "stdin"), "rb") as file:
         holds("what the requests of rulebook_pipe are in bytes", made.returncode == 0 and made.stdout == file.read())
+    program = [*emulator().split(), os.path.join(Room.tried, "target", "bin", "rulebook_pipe")]
+    for what, given, said in (
+            ("a whole request", b"c 0 1 0 0\n\5", b"cleared\n"),
+            ("a book of which 1 byte of 5 comes", b"c 0 5 0 0\n\5", b"cut off\n"),
+            ("no byte of the ranks", b"c 0 3 1 0\n\1\0\5", b"cut off\n"),
+            ("no byte of the record", b"r 9 3 1 3\n\1\0\5\0", b"cut off\n"),
+            ("a byte missing behind those that are kept", b"c 0 1 70000 0\n\5" + bytes(69999), b"cut off\n"),
+            ("a whole request, and one that is cut off", b"c 0 1 0 0\n\5c 0 5 0 0\n\5", b"cleared\ncut off\n")):
+        ran = subprocess.run(program, input=given, stdout=subprocess.PIPE, timeout=SECONDS, check=False)
+        compare(f"rulebook_pipe: {what}", (0, said), (ran.returncode, ran.stdout))

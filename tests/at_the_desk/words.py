@@ -21,6 +21,8 @@ def words():
         for budget in ("-1", "18446744073709551616", "1_0", "٣", "+1"):
             room.expect(2, "", f"--budget is a number of steps, 0 to 2^64 - 1 {HOW}", "run", "addition.book", "ordered", "addition.record", "--budget", budget)
         room.expect(2, "", f"an argument's number is 0 to 2^64 - 1 {HOW}", "argument", "addition.book", "addition.record", "first")
+        room.expect(2, "", f"--trace takes no value {HOW}", "run", "addition.book", "ordered", "addition.record", "--trace=1")
+        room.expect(2, "", f"check takes no option --trace {HOW}", "check", "addition.book", "ordered", "--trace")
         room.expect(3, "spent", "the budget, 1, is used and a rule still fits; --budget gives it more",
                     "run", "--budget=1", "--", "addition.book", "ordered", "addition.record")
         room.expect(0, "rulebook: clears rule books, and runs records under them", "", "help")
@@ -60,6 +62,10 @@ def as_json():
                 (page.get("result"), page.get("refusal"), page.get("place"), page.get("rule")))
         page = told(3, "run", "addition.book", "ordered", "addition.record", "--budget=1")
         compare("run --json", ("spent", 1, "f1(f2(f0,f0))"), (page.get("result"), page.get("steps"), page.get("term", "").replace(" ", "")))
+        holds("run --json: no trace unless it is asked for", "trace" not in page)
+        page = told(0, "run", "addition.book", "ordered", "addition.record", "--trace")
+        compare("run --trace --json", ("done", [{"term": "f2(f1(f0),f0)", "rule": 1, "place": 0}, {"term": "f1(f2(f0,f0))", "rule": 0, "place": 2}]),
+                (page.get("result"), page.get("trace")))
         page = told(0, "argument", "addition.book", "addition.record", "0")
         compare("argument --json", (2, "f1(f0)"), (page.get("start"), page.get("term")))
         page = told(0, "show", "undo.book")
