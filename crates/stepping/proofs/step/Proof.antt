@@ -15,7 +15,7 @@ use Rattle.term.specs.At.{At}
 use Rattle.book.specs.Book.{Rule}
 use Rattle.matching.specs.Runnable.{rulesIn}
 use Rattle.steps.specs.Step.{ruleOf}
-use Rattle.steps.specs.Run.{Means}
+use Rattle.steps.specs.Run.{spent, Means}
 use Rattle.steps.proofs.NextStep.{not-taken}
 use Rattle.building.specs.Right.{Within}
 use Rattle.building.specs.declared.Place.{Place}
@@ -63,7 +63,10 @@ module _ (c : tie.Else1) where
 
 returns-2 : tie.Need-returns-2
 unfolding Tells Means outcomeOf
-returns-2 c t k = let at-place = step-at (c .before) k in ((sym (c .if2 .taken), (at-place .next, at-place .isNext)), refl)
+returns-2 c t k =
+    let at-place = step-at (c .before) k in
+    let used-up : Means spent (rules (c .before)) (start (c .before) .args .left) 0 t = (sym (c .if2 .taken), (at-place .next, at-place .isNext)) in
+    (used-up, refl)
 
 mul-right : tie.Need-mul-right
 mul-right c = omega (arith, small (c .before .before .before))
