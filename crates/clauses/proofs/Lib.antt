@@ -26,6 +26,7 @@ pub mod Dimacs
 pub mod Weights
 pub mod Counts
 pub mod Bounds
+pub mod Maximum
 pub mod Lists
 pub mod Elements
 pub mod BlockNumbers

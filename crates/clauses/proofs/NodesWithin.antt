@@ -10,32 +10,13 @@ use lib.ListN.{length}
 use Rattle.reply.proofs.Every.{Every, every-append, every-map}
 use Rattle.reply.proofs.Tests.{differ}
 use Rattle.term.specs.Term.{Term, var, app, size, over, same}
-use Rattle.clauses.specs.Cnf.{Literal, is, isNot}
+use Rattle.clauses.specs.Cnf.{is}
 use Rattle.clauses.specs.Numbering.{G}
 use Rattle.clauses.specs.Blocks.{Numbered, numberedArgs, Setting, CAt, DAt, partsBehind, partsOfD, partsOfC, someIdentical, nodeBlock, clausesOfC}
 use Rattle.clauses.specs.Wholes.{allParts, someParts}
-use Rattle.clauses.proofs.Items.{Within, variableOf, Over}
+use Rattle.clauses.proofs.Items.{Within, Over}
+use Rattle.clauses.proofs.Wholes.{all-parts-over, some-parts-over}
 use Rattle.clauses.proofs.Inside.{Inside, arguments-inside, size-positive, symbol-declared, arguments-over}
-
--- The whole and its parts lie within; so do the clauses that tie them, whichever sign each has.
-module _ (top whole : ℕ) (w : Within top whole) (parts : List ℕ) (ws : Every (Within top) parts) where
-  tied-over :
-      (yes′ no′ : ℕ → Literal) → ((v : ℕ) → Within top v → Within top (variableOf (yes′ v))) →
-      ((v : ℕ) → Within top v → Within top (variableOf (no′ v))) →
-      Every (Over top) (map (λ q. no′ whole ∷ yes′ q ∷ []) parts ++ ((yes′ whole ∷ map no′ parts) ∷ []))
-  tied-over yes′ no′ y n =
-      every-append (Over top) (map (λ q. no′ whole ∷ yes′ q ∷ []) parts) ((yes′ whole ∷ map no′ parts) ∷ [])
-      (every-map (Within top) (Over top) (λ q. no′ whole ∷ yes′ q ∷ []) (λ q v. (n whole w, (y q v, tt))) parts ws)
-      ((y whole w, every-map (Within top) (λ l. Within top (variableOf l)) no′ n parts ws), tt)
-
-  some-parts-over : Every (Over top) (someParts whole parts)
-  unfolding someParts
-  some-parts-over = tied-over isNot is (λ v h. h) (λ v h. h)
-
-all-parts-over : (top whole : ℕ) → Within top whole → (parts : List ℕ) → Every (Within top) parts → Every (Over top) (allParts whole parts)
-unfolding allParts
-all-parts-over top whole w [] ws = ((w, tt), tt)
-all-parts-over top whole w (q ∷ qs) ws = tied-over top whole w (q ∷ qs) ws is isNot (λ v h. h) (λ v h. h)
 
 -- What a rule's setting has to give: `lefts` nodes on the left, G of different symbols, C and D of any two nodes.
 pub record Fits (arities : List ℕ) (top lefts : ℕ) (c : Setting) : Type 0 where

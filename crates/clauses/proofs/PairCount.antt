@@ -13,6 +13,7 @@ use Rattle.clauses.specs.Numbering.{numbers}
 use Rattle.clauses.specs.Blocks.{pairClauses, pairBlock, pairBlocksOf, pairBlocks, lowestBit, higherBit}
 use Rattle.clauses.proofs.BlockNumbers.{pairs-count}
 
+-- One pair: three at the lowest bit, six at each other.
 module _ (n k f g : ℕ) where
   higher-count : (first count : ℕ) → length (flatMap (pairClauses n k f g) (numbers (suc first) count)) ≡ 6 * count
   unfolding flatMap numbers pairClauses lowestBit higherBit
@@ -39,6 +40,7 @@ each-pair n k f (g ∷ others) = go (eqb f g) refl (each-pair n k f others)
     go true e later = rw (e, pairBlocksOf) later
     go false e later = rw (e, pairBlocksOf) (pair-block-count n k f g, later)
 
+-- As many in each of several blocks, and so in all.
 flat-count : {A : Type 0} (many : ℕ) (l : List (List A)) → Every (λ (x : List A). length x ≡ many) l → length (flatten l) ≡ length l * many
 unfolding flatten
 flat-count many [] h = sym (zero-mul many)

@@ -1,17 +1,29 @@
--- The clauses of a whole and its parts hold exactly if the whole is what its parts make it: all of them, or some. Said of any variables,
--- so that it serves every file of such clauses. Assumes nothing.
+-- The clauses of a whole and its parts hold exactly if the whole is what its parts make it: all of them, or some; and they have no other
+-- variables. Said of any variables, so that it serves every file of such clauses. Assumes nothing.
 use Prim.Native.Nat.{ℕ}
 use mathlib.Core.Bool.{Bool, true, false, not, _&&_, _||_, Bool·beq, and-true, or-true}
-use mathlib.Core.List.{List, [], _∷_, map}
+use mathlib.Core.List.{List, [], _∷_, _++_, map}
 use mathlib.Core.Logic.{_↔_}
 use mathlib.Core.Path.{_≡_, refl, sym, _∙_, ap, ap₂}
-use lib.Dec.{T}
-use Rattle.clauses.specs.Cnf.{is, isNot, Assignment, holds, someHolds, allHold}
+use lib.Dec.{T, eqb}
+use Rattle.reply.proofs.Every.{Every, every-append, every-map}
+use Rattle.clauses.specs.Cnf.{Literal, is, isNot, Assignment, holds, someHolds, allHold}
 use Rattle.clauses.specs.Wholes.{allParts, someParts}
 use Rattle.clauses.proofs.Equations.{everyTrue, someTrue}
+use Rattle.clauses.proofs.Items.{Within, variableOf, Over}
 use Rattle.clauses.proofs.ClauseLists.{tests-whether, allHold-append}
 
--- All parts are true; also if there is none, where `everyTrue` fails.
+-- "One-way clauses, from parts to whole, in place of equivalences: then a C may be true with no ground." Here 1 is the whole and true, and its
+-- only part 2 is not.
+no-C-without-ground : allHold (eqb 1) (someParts 1 (2 ∷ [])) ≡ false
+unfolding someParts allHold someHolds holds
+no-C-without-ground = refl
+
+no-D-without-ground : allHold (eqb 1) (allParts 1 (2 ∷ [])) ≡ false
+unfolding allParts allHold someHolds holds
+no-D-without-ground = refl
+
+-- The whole is what its parts make it. All parts are true; also if there is none, where `everyTrue` fails.
 every : Assignment → List ℕ → Bool
 every α [] = true
 every α (q ∷ qs) = α q && every α qs
@@ -100,3 +112,23 @@ unit-exactly α v = tests-whether (go (α v))
     go : (v : Bool) → ((v || false) && true) ≡ Bool·beq v true
     go true = refl
     go false = refl
+
+-- The whole and its parts lie within; so do the clauses that tie them, whichever sign each has.
+module _ (top whole : ℕ) (w : Within top whole) (parts : List ℕ) (ws : Every (Within top) parts) where
+  tied-over :
+      (yes′ no′ : ℕ → Literal) → ((v : ℕ) → Within top v → Within top (variableOf (yes′ v))) →
+      ((v : ℕ) → Within top v → Within top (variableOf (no′ v))) →
+      Every (Over top) (map (λ q. no′ whole ∷ yes′ q ∷ []) parts ++ ((yes′ whole ∷ map no′ parts) ∷ []))
+  tied-over yes′ no′ y n =
+      every-append (Over top) (map (λ q. no′ whole ∷ yes′ q ∷ []) parts) ((yes′ whole ∷ map no′ parts) ∷ [])
+      (every-map (Within top) (Over top) (λ q. no′ whole ∷ yes′ q ∷ []) (λ q v. (n whole w, (y q v, tt))) parts ws)
+      ((y whole w, every-map (Within top) (λ l. Within top (variableOf l)) no′ n parts ws), tt)
+
+  pub some-parts-over : Every (Over top) (someParts whole parts)
+  unfolding someParts
+  some-parts-over = tied-over isNot is (λ v h. h) (λ v h. h)
+
+pub all-parts-over : (top whole : ℕ) → Within top whole → (parts : List ℕ) → Every (Within top) parts → Every (Over top) (allParts whole parts)
+unfolding allParts
+all-parts-over top whole w [] ws = ((w, tt), tt)
+all-parts-over top whole w (q ∷ qs) ws = tied-over top whole w (q ∷ qs) ws is isNot (λ v h. h) (λ v h. h)

@@ -3,6 +3,7 @@ pub mod Numbering
 pub mod Wholes
 pub mod Blocks
 pub mod File
+pub mod Bounds
 pub mod Item
 pub mod Dimacs
 pub mod Pairs

@@ -1,23 +1,11 @@
--- Cases of the order and the rank check, computed; the easy slips of document 01 fail here. Assumes nothing.
+-- Cases of the rank check, computed. Assumes nothing.
 use Prim.Native.Nat.{ℕ}
 use mathlib.Core.Path.{_≡_, refl}
 use mathlib.Core.List.{List, [], _∷_}
 use Rattle.reply.specs.Reply.{given, refused, _at_}
-use Rattle.book.specs.Examples.{divIE, forgetful, fx-to-gx, fx-to-x, undoing}
+use Rattle.book.specs.Examples.{fx-to-gx, undoing}
 use Rattle.order.specs.Clearing.{checkRanks}
 use Rattle.order.specs.Computing.{computing}
-
-equal-ranks-are-unrelated : checkRanks divIE (1 ∷ 1 ∷ 0 ∷ []) ≡ refused (8 at 0)
-unfolding computing
-equal-ranks-are-unrelated = refl
-
-later-arguments-count : checkRanks forgetful (1 ∷ 0 ∷ []) ≡ refused (8 at 0)
-unfolding computing
-later-arguments-count = refl
-
-an-identical-argument-suffices : checkRanks fx-to-x (0 ∷ []) ≡ given tt
-unfolding computing
-an-identical-argument-suffices = refl
 
 any-byte-is-a-rank : checkRanks fx-to-gx (255 ∷ 254 ∷ []) ≡ given tt
 unfolding computing

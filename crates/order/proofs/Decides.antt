@@ -1,8 +1,9 @@
 -- The test decides the relation: at one root, given a test for smaller terms that does, and so for every fuel that is enough.
--- Soundness goes by the fuel alone; completeness needs that the sizes of both sides together fall. Assumes nothing.
+-- Soundness goes by the fuel alone; completeness needs that the sizes of both sides together fall. Before that, what the test says where
+-- the easy slips of document 01 would say otherwise. Assumes nothing.
 use Prim.Native.Nat.{ℕ, zero, suc, _+_, _≤_}
 use mathlib.Core.Bool.{Bool, true, false, _&&_, _||_}
-use mathlib.Core.List.{List}
+use mathlib.Core.List.{List, [], _∷_}
 use mathlib.Core.Logic.{_↔_}
 use mathlib.Core.Path.{_≡_, refl, subst}
 use native.Mathlib.Omega.{arith}
@@ -14,7 +15,32 @@ use Rattle.term.proofs.Same.{same→identical, same-refl}
 use Rattle.order.specs.Precedence.{Above, above}
 use Rattle.order.specs.Exceeds.{Exceeds, DecreaseAt, ExceedsEvery, SomeReaches, case1, case2, case3, here, further, none, both, identical, exceeding, later}
 use Rattle.order.specs.Test.{everyArg, someArg, decreaseAt, reaches, case1Holds, case2Holds, case3Holds, atRoot, exceedsIn, exceeds}
+use Rattle.order.specs.Computing.{comparing}
 
+-- The easy slips, each at the rule that document 01 names. x and y are the variables 0 and 1.
+abbrev one : Term → Args
+one t = cons t nil
+
+abbrev two : Term → Term → Args
+two s t = cons s (cons t nil)
+
+-- "Taking equal ranks as equivalent symbols: 003's div and i would clear." div, i and e are 0, 1 and 2; 003's first rule is div(x,e) → i(x).
+equal-ranks-are-unrelated : exceeds (1 ∷ 1 ∷ 0 ∷ []) (app 0 (two (var 0) (app 2 nil))) (app 1 (one (var 0))) ≡ false
+unfolding size count same comparing
+equal-ranks-are-unrelated = refl
+
+-- "In (1), forgetting that s must exceed the later arguments of t: f(g(x),y) → f(x,f(g(x),y)) would clear."
+later-arguments-count :
+    exceeds (1 ∷ 0 ∷ []) (app 0 (two (app 1 (one (var 0))) (var 1))) (app 0 (two (var 0) (app 0 (two (app 1 (one (var 0))) (var 1))))) ≡ false
+unfolding size count same comparing
+later-arguments-count = refl
+
+-- "Case (3) without identity: f(x) → x would be refused."
+an-identical-argument-suffices : exceeds (0 ∷ []) (app 0 (one (var 0))) (var 0) ≡ true
+unfolding size count same comparing
+an-identical-argument-suffices = refl
+
+-- The test and the relation.
 size-positive : (t : Term) → 1 ≤ size t
 unfolding size
 size-positive (var x) = omega arith

@@ -18,3 +18,4 @@ pub mod Filled
 pub mod SameRanks
 pub mod Verdicts
 pub mod Settled
+pub mod NewVariable

@@ -1,11 +1,13 @@
 -- Clearing a book: every rule decreases. The rank check, refusals 7 and 8.
 use Prim.Native.Nat.{ℕ, zero, suc}
-use mathlib.Core.Bool.{Bool}
+use mathlib.Core.Bool.{Bool, false}
 use mathlib.Core.List.{List, [], _∷_, List·Memᴰ}
+use mathlib.Core.Path.{_≡_}
 use lib.Dec.{eqb}
 use lib.ListN.{length}
 use Rattle.reply.specs.Reply.{Reply, given, refused, unless, _>>_, _>>=_, _at_}
 use Rattle.term.specs.Term.{Term}
+use Rattle.term.specs.Replacement.{Occurs}
 use Rattle.book.specs.Book.{Book, Rule, symbols}
 use Rattle.book.specs.Reading.{readBook}
 use Rattle.order.specs.Exceeds.{Exceeds}
@@ -24,6 +26,15 @@ Clears above rules = AllDecrease (Exceeds above) rules
 
 unfoldable pub decreases : (exceeds : Term → Term → Bool) → Rule → Bool
 decreases exceeds rule = exceeds (rule .left) (rule .right)
+
+-- Under no relation on the symbols, whatever it is, and under no ranks.
+pub record NeverDecreases (rule : Rule) : Type 1 where
+  pub underNoRelation : (above : ℕ → ℕ → Type 0) → Decreases (Exceeds above) rule → ⊥
+  pub underNoRanks : (ranks : List ℕ) → decreases (exceeds ranks) rule ≡ false
+
+-- "A right side may hold a variable that the left lacks; such a rule is readable and never decreases."
+unfoldable pub NewVariableNeverDecreases : Type 1
+NewVariableNeverDecreases = (rule : Rule) (x : ℕ) → Occurs x (rule .right) → (Occurs x (rule .left) → ⊥) → NeverDecreases rule
 
 -- Refusal 8, "some rule does not decrease", at "the lowest such rule"; these rules are numbered from `number` on.
 unfoldable pub allDecrease : (exceeds : Term → Term → Bool) (number : ℕ) → List Rule → Reply (Unit {0})
