@@ -2,13 +2,14 @@
 -- Assumes nothing.
 use Prim.Native.Nat.{ℕ, _+_, _-_, _≤_, _<_}
 use mathlib.Core.List.{List, [], _∷_}
-use mathlib.Core.Path.{_≡_, refl, sym, ap, _∙_}
+use mathlib.Core.Path.{_≡_, refl, sym, ap, subst, _∙_}
 use native.Mathlib.Omega.{arith}
 use lib.Dec.{eqb}
 use lib.ListN.{length, take, drop, replicate, length-drop, drop-of-length-le}
 use lib.Seq.{length-take-le}
 use Rattle.reply.specs.Reply.{Refusal, Reply, given, refused, _>>=_, _at_}
 use Rattle.reply.specs.Refusals.{numbered}
+use Rattle.reply.specs.declared.Refusal.{Refusal as Named}
 use Rattle.reply.specs.declared.Refusal.the-variants as Refusals
 use Rattle.text.specs.Text.{pieces, newline, upTo}
 use Rattle.clauses.specs.Cnf.{Literal}
@@ -16,10 +17,18 @@ use Rattle.answer_lines.specs.Values.{Values, unclosed, closed}
 use Rattle.answer_lines.specs.Lines.{Said, nothing, satisfied, noModel, lineOf, lineAfter, linesAfter, whole, readAnswer}
 use Rattle.answer_lines.specs.Marks.{tableOf}
 use Rattle.answer_lines.specs.Progress.{HoldsSaid, Tells}
+use Rattle.answer_lines.specs.AnswerRead.{ReadAs, refusedRead}
+use Rattle.answer_lines.specs.declared.AnswerRead.{AnswerRead}
 use Rattle.answer_lines.specs.declared.values.Stage.{Stage}
 use Rattle.answer_lines.specs.declared.values.Stage.the-variants.{Silent, Closed, NoModel, Faulty}
 use Rattle.words.proofs.Pieces.{next-within, piece-at}
 use Rattle.answer_lines.proofs.Marks.{no-marks}
+
+-- A refusal with an empty table is read as one.
+pub refused-read :
+    (reply : Reply (List Literal)) (why : Named) (r : AnswerRead) → r ≡ refusedRead why → reply ≡ refused (numbered why) →
+    ReadAs reply (r .verdict) (r .table)
+refused-read reply why r e so = subst (λ (x : AnswerRead). ReadAs reply (x .verdict) (x .table)) (sym e) (so, no-marks)
 
 no-stage-is-faulty : (said : Said) (stage : Stage) (table : List ℕ) → HoldsSaid said stage table → stage ≡ Faulty → ⊥
 no-stage-is-faulty nothing stage table h e = let z : _≡_ {A = ℕ} 0 1 = cc in omega arith

@@ -12,7 +12,7 @@ ghost use Prim.Native.Nat.{ℕ, _≤_};
 ghost use Rattle.reply.specs.Reply.{Refusal as Fault};
 ghost use Rattle.answer_lines.specs.Lines.{Said, valueLine, verdictLine, lineOf, lineAfter, readAnswer};
 ghost use Rattle.answer_lines.specs.Progress.{HoldsSaid, Tells};
-ghost use Rattle.answer_lines.specs.AnswerRead.{ReadAs};
+ghost use Rattle.answer_lines.specs.AnswerRead.{ReadAs, refusedRead};
 
 // What an answer comes to: values that are closed, or the refusal, 13 or 14.
 pub enum Verdict {
@@ -95,6 +95,16 @@ fn line_after(
     verdict_after(line, stage)
 }
 
+// A refusal, and no marks.
+fn refused(why: Refusal) -> AnswerRead
+    ensures { λ r. ⌜ r ≡ refusedRead why ⌝ }
+{
+    AnswerRead {
+        verdict: Verdict::Refused(why),
+        table: [0u8; 64],
+    }
+}
+
 // Reads an answer whose rank variables are at most 64: "lines ended by newline, the last newline optional"; 13 at the "start of the first
 // faulty line, or the text's length if something is missing", else 14, else the values of the rank variables.
 pub fn read_values(text: &[u8], variables: usize, rank_variables: usize) -> AnswerRead
@@ -116,10 +126,7 @@ pub fn read_values(text: &[u8], variables: usize, rank_variables: usize) -> Answ
             &mut table,
         );
         if let Stage::Faulty = stage {
-            return AnswerRead {
-                verdict: Verdict::Refused(Refusal::BadAnswer(start)),
-                table: [0u8; 64],
-            };
+            return refused(Refusal::BadAnswer(start));
         }
     }
     match stage {
@@ -127,13 +134,7 @@ pub fn read_values(text: &[u8], variables: usize, rank_variables: usize) -> Answ
             verdict: Verdict::Values,
             table,
         },
-        Stage::NoModel => AnswerRead {
-            verdict: Verdict::Refused(Refusal::NoModel),
-            table: [0u8; 64],
-        },
-        _ => AnswerRead {
-            verdict: Verdict::Refused(Refusal::BadAnswer(text.len())),
-            table: [0u8; 64],
-        },
+        Stage::NoModel => refused(Refusal::NoModel),
+        _ => refused(Refusal::BadAnswer(text.len())),
     }
 }

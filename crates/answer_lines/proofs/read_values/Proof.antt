@@ -5,9 +5,8 @@ use native.Mathlib.Omega.{arith}
 use lib.ListN.{length}
 use borrow.Author.Needs.{needs}
 use Rattle.words.proofs.Pieces.{next-within}
-use Rattle.answer_lines.proofs.Marks.{no-marks}
 use Rattle.answer_lines.proofs.Stages.{not-faulty, neither-end}
-use Rattle.answer_lines.proofs.AllLines.{From, at-first, line-on, line-faulty, read-closed, read-no-model, read-missing}
+use Rattle.answer_lines.proofs.AllLines.{refused-read, From, at-first, line-on, line-faulty, read-closed, read-no-model, read-missing}
 use Rattle.answer_lines.proofs.read_values.Statement.{statement}
 use Rattle.answer_lines.proofs.read_values.Tie as tie
 
@@ -41,13 +40,14 @@ line-after-requires c κs = c .before .before .before .before .before .before .p
 enum-told : tie.Need-enum-told Inv-loop μ-loop
 enum-told c = search needs
 
+refused-requires : tie.Need-refused-requires Inv-loop μ-loop
+refused-requires c κs = search needs
+
 returns : tie.Need-returns Inv-loop μ-loop
 returns c =
-    let f = c .before .before .before .before .before .before .before .loop .inv in (
-      line-faulty _ _ _ f _ (c .before .before .before .before .before .before .loop-test .taken) (c .before .before .before .before .before .next .ensures) _ _
-          (c .before .before .line-after .ensures _ _ (f .holds)) (c .enum-told .given .1),
-      no-marks,
-    )
+    let f = c .before .before .before .before .before .before .before .before .loop .inv in
+    refused-read _ _ _ (c .refused .ensures)
+    (line-faulty _ _ _ f _ (c .before .before .before .before .before .before .before .loop-test .taken) (c .before .before .before .before .before .before .next .ensures) _ _ (c .before .before .before .line-after .ensures _ _ (f .holds)) (c .before .enum-told .given .1))
 
 loop-less : tie.Need-loop-less Inv-loop μ-loop
 loop-less c = omega (arith, c .before .before .before .before .next .ensures)
@@ -63,16 +63,24 @@ enum-told-2 c = search needs
 enum-told-3 : tie.Need-enum-told-3 Inv-loop μ-loop
 enum-told-3 c = search needs
 
+refused-requires-2 : tie.Need-refused-requires-2 Inv-loop μ-loop
+refused-requires-2 c κs = search needs
+
+refused-requires-3 : tie.Need-refused-requires-3 Inv-loop μ-loop
+refused-requires-3 c κs = search needs
+
 returns-2 : tie.Need-returns-2 Inv-loop μ-loop
 returns-2 c = read-closed _ _ _ (c .before .before .before .loop .inv) (c .before .before .loop-test .left) (c .enum-told2 .given .1)
 
 returns-3 : tie.Need-returns-3 Inv-loop μ-loop
-returns-3 c = (read-no-model _ _ _ (c .before .before .before .loop .inv) (c .before .before .loop-test .left) (c .enum-told3 .given .1), no-marks)
+returns-3 c =
+    refused-read _ _ _ (c .refused2 .ensures)
+    (read-no-model _ _ _ (c .before .before .before .before .loop .inv) (c .before .before .before .loop-test .left) (c .before .enum-told3 .given .1))
 
 returns-4 : tie.Need-returns-4 Inv-loop μ-loop
 returns-4 c =
-    let (c₁, c₂) = neither-end _ (c .match2 .keys3) in
-    (read-missing _ _ _ (c .before .before .loop .inv) (c .before .loop-test .left) c₁ c₂, no-marks)
+    let (c₁, c₂) = neither-end _ (c .before .match2 .keys3) in
+    refused-read _ _ _ (c .refused3 .ensures) (read-missing _ _ _ (c .before .before .before .loop .inv) (c .before .before .loop-test .left) c₁ c₂)
 
 pub read-values-spec : {M : Type 1} → statement M
 read-values-spec =
@@ -88,11 +96,14 @@ read-values-spec =
     part-line-after-end
     line-after-requires
     enum-told
+    refused-requires
     returns
     loop-less
     loop-again
     enum-told-2
     enum-told-3
+    refused-requires-2
+    refused-requires-3
     returns-2
     returns-3
     returns-4)
