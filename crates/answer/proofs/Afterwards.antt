@@ -22,9 +22,9 @@ use Rattle.book.specs.Book.{Book, symbols}
 use Rattle.book.specs.Reading.{readBook}
 use Rattle.order.specs.Test.{exceeds}
 use Rattle.order.specs.Clearing.{allDecrease}
-use Rattle.order.specs.Meaning.{ranksMeaning}
-use Rattle.order.specs.declared.RanksVerdict.{RanksVerdict}
-use Rattle.order.specs.declared.RanksVerdict.the-variants as Ranks
+use Rattle.clearing.specs.Meaning.{ranksMeaning}
+use Rattle.clearing.specs.declared.RanksVerdict.{RanksVerdict}
+use Rattle.clearing.specs.declared.RanksVerdict.the-variants as Ranks
 use Rattle.order.proofs.SameRanks.{all-decrease-same}
 use Rattle.clauses.specs.Cnf.{Literal, Assignment}
 use Rattle.clauses.specs.Numbering.{ranksOf}

@@ -5,7 +5,7 @@ use answer_lines::Verdict;
 use answer_lines::read_values;
 use book::Book;
 use book::BookVerdict;
-use order::RanksVerdict;
+use clearing::RanksVerdict;
 use ranks::ranks_of;
 use reply::Refusal;
 ghost use mathlib.Core.Path.{_≡_};
@@ -36,7 +36,7 @@ fn checked_ranks(bytes: &[u8], book: Book, table: [u8; 64], out: &mut [u8]) -> A
         return Answered::Refused(Refusal::ShortBuffer);
     }
     let ranks = ranks_of(&table, symbols, term::rank_bits(symbols));
-    let verdict = order::first_not_decreasing(bytes, book, ranks);
+    let verdict = clearing::first_not_decreasing(bytes, book, ranks);
     match verdict {
         RanksVerdict::Refused(why) => Answered::Refused(why),
         RanksVerdict::Accepted => {
@@ -81,7 +81,7 @@ pub fn ranks_from_answer(book: &[u8], text: &[u8], out: &mut [u8]) -> Answered
         BookVerdict::Refused(why) => Answered::Refused(why),
         BookVerdict::Readable => {
             let places = read.book;
-            answer_to(book, places, blocks::counting::variables(places), text, out)
+            answer_to(book, places, counts::variables(places), text, out)
         }
     }
 }

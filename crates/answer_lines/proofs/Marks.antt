@@ -10,10 +10,10 @@ use lib.Dec.{eqb}
 use lib.ListN.{length, getD, set, replicate, length-map, length-set}
 use lib.Seq.{ext-getD, getD-set-same, getD-set-other}
 use borrow.Author.Tests.{eq-eqb, ne-eqb}
-use Rattle.clauses.specs.Cnf.{Literal, is, isNot}
+use Rattle.clauses.specs.Cnf.{Literal, is, isNot, variableOf}
 use Rattle.clauses.specs.Numbering.{numbers}
 use Rattle.clauses.proofs.Lists.{numbers-length}
-use Rattle.answer_lines.specs.Values.{variableOf, names}
+use Rattle.answer_lines.specs.Values.{names}
 use Rattle.answer_lines.specs.Values.{valued}
 use Rattle.answer_lines.specs.Marks.{mark, tableOf, sign, assigned}
 use Rattle.answer_lines.specs.Computing.{computing}
@@ -24,7 +24,7 @@ unfolding computing
 no-marks = refl
 
 pub not-named-not-valued : (v : ℕ) (ls : List Literal) → names v ls ≡ false → valued ls v ≡ false
-unfolding names valued variableOf
+unfolding names valued
 not-named-not-valued v [] e = refl
 not-named-not-valued v (is u ∷ ls) e = go (eqb u v) e (not-named-not-valued v ls)
   where
@@ -80,12 +80,12 @@ module _ (ls : List Literal) (v : ℕ) where
 
 -- A literal of a variable that is not named yet leaves its own mark there, and every other variable's as it was.
 mark-here : (l : Literal) (ls : List Literal) → names (variableOf l) ls ≡ false → mark (l ∷ ls) (variableOf l) ≡ sign l
-unfolding names valued variableOf
+unfolding names valued
 mark-here (is u) ls new = mark-code (is u ∷ ls) u ∙ rw (eq-eqb u u refl)
 mark-here (isNot u) ls new = mark-code (isNot u ∷ ls) u ∙ rw (eq-eqb u u refl, not-named-not-valued u ls new)
 
 mark-elsewhere : (l : Literal) (ls : List Literal) (v : ℕ) → (variableOf l ≡ v → ⊥) → mark (l ∷ ls) v ≡ mark ls v
-unfolding names valued variableOf
+unfolding names valued
 mark-elsewhere (is u) ls v d = mark-code (is u ∷ ls) v ∙ rw (ne-eqb u v d) (sym (mark-code ls v))
 mark-elsewhere (isNot u) ls v d = mark-code (isNot u ∷ ls) v ∙ rw (ne-eqb u v d) (sym (mark-code ls v))
 

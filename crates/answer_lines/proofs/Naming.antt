@@ -8,8 +8,8 @@ use native.Mathlib.Omega.{arith}
 use lib.ListN.{getD, set}
 use borrow.Author.Tests.{le-leb, lt-leb}
 use Rattle.reply.specs.Reply.{Refusal, given, refused, unless, _>>_}
-use Rattle.clauses.specs.Cnf.{Literal}
-use Rattle.answer_lines.specs.Values.{unclosed, variableOf, names, named}
+use Rattle.clauses.specs.Cnf.{Literal, variableOf}
+use Rattle.answer_lines.specs.Values.{unclosed, names, named}
 use Rattle.answer_lines.specs.Marks.{mark, tableOf, sign}
 use Rattle.answer_lines.specs.Progress.{HoldsValues, Tells}
 use Rattle.answer_lines.specs.declared.values.Stage.the-variants.{Open, Faulty}

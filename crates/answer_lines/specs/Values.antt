@@ -12,10 +12,6 @@ pub data Values : Type 0 where
   unclosed : List Literal → Values
   closed : List Literal → Values
 
-unfoldable pub variableOf : Literal → ℕ
-variableOf (is v) = v
-variableOf (isNot v) = v
-
 unfoldable pub names : (v : ℕ) → List Literal → Bool
 names v [] = false
 names v (l ∷ ls) = eqb (variableOf l) v || names v ls

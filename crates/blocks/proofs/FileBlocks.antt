@@ -22,7 +22,7 @@ use Rattle.rule_blocks.specs.declared.PlacedRule.{PlacedRule}
 use Rattle.clauses.proofs.BlockNumbers.{pairs-count}
 use Rattle.clauses.proofs.Elements.{element-left, element-right, element-there, element-map, element-map-none}
 use Rattle.rule_blocks.proofs.RuleNumbers.{blocks-counted}
-use Rattle.blocks.proofs.RulesWalk.{read-symbols}
+use Rattle.counts.proofs.ReadRules.{read-symbols}
 
 -- A number above 0 is one more than another.
 one-more : {A : Type 0} (l : List A) (x : A) (number : ℕ) → (number ≡ 0 → ⊥) → getElem? (x ∷ l) number ≡ getElem? l (number - 1)

@@ -1,6 +1,5 @@
 pub mod RulesWalk
 pub mod RulesBlocks
-pub mod BlockCount
 pub mod FileBlocks
 pub mod BlockCall
 pub mod Settled

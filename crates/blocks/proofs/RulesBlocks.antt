@@ -24,7 +24,8 @@ use Rattle.clauses.proofs.Elements.{element-left, element-right}
 use Rattle.clauses.proofs.Lists.{flatten-append}
 use Rattle.rule_blocks.proofs.RuleNumbers.{blocks-counted}
 use Rattle.book.proofs.WasRead.{read-stands}
-use Rattle.blocks.proofs.RulesWalk.{RuleHere, rule-here, base-behind, read-symbols}
+use Rattle.counts.proofs.ReadRules.{read-symbols}
+use Rattle.blocks.proofs.RulesWalk.{RuleHere, rule-here, base-behind}
 
 -- The blocks of rule i and of those behind it.
 abbrev pub blocksFrom : (bytes : List ℕ) → PlacedBook → (base i : ℕ) → List (List Clause)

@@ -1,5 +1,4 @@
--- What is known of a read book, rule by rule: where its rules stand, and that the base which grows by 2|l||r| a rule ends at V.
--- Assumes nothing.
+-- What is known of a read book, rule by rule: where its rules stand, each with its base. Assumes nothing.
 use Prim.Native.Nat.{ℕ, zero, suc, _+_, _*_, _≤_, _<_}
 use mathlib.Core.List.{List, [], _∷_, List·Memᴰ}
 use mathlib.Core.Path.{_≡_, refl, sym, ap, ap₂, subst, _∙_}
@@ -24,24 +23,14 @@ use Rattle.clauses.specs.Blocks.{Numbered, subterms, baseBehind, «V»}
 use Rattle.rule_blocks.specs.Nodes.{WithinMaximum}
 use Rattle.book.specs.WasRead.{ReadFrom, WasRead}
 use Rattle.blocks.specs.RulePlaces.{placedRule}
+use Rattle.counts.proofs.ReadRules.{read-few-symbols, rule-next, BaseAt, base-goes-on}
 use Rattle.rule_blocks.specs.Rules.{SmallSide, RuleStands}
 use Rattle.rule_blocks.specs.declared.PlacedRule.{PlacedRule}
 use Rattle.clauses.proofs.Bounds.{variables-at-most}
 use Rattle.clauses.proofs.Elements.{element-member, element-there}
 use Rattle.clauses.proofs.Inside.{Inside, subterms-inside, arity-kept, symbol-declared}
 use Rattle.clauses.proofs.Numbers.{base-grows}
-use Rattle.pair_blocks.proofs.PairNumbers.{product}
-
--- Its symbols.
-module _ {bytes : List ℕ} {b : PlacedBook} (read : ReadFrom bytes b) where
-  pub read-symbols : symbols (bookAt bytes b) ≡ b .symbols
-  read-symbols = sym (read-stands read .symbolCount)
-
-  pub read-few-symbols : b .symbols ≤ 16
-  read-few-symbols = read-stands read .fewSymbols
-
-  pub read-few-rules : b .rules ≤ 32
-  read-few-rules = read-stands read .fewRules
+use Rattle.numbering.proofs.Small.{product}
 
 -- The arguments of a subterm of a side are at most six.
 few-arguments : (arities : List ℕ) → ((a : ℕ) → List·Memᴰ a arities → a ≤ 6) → (t : Term) → T (over arities t) → count (arguments t) ≤ 6
@@ -111,50 +100,19 @@ rule-here {bytes} {b} read base i small h =
     right : SmallSide bytes (b .arities) (getD (b .«right_at») i 0) (getD (b .«right_nodes») i 0) (rule .right)
     right = side-stands (bookAt bytes b .arities) (limits .arity) (limits .right rule member) (there .right i other h)
 
--- A base before rule i that ends at V.
-abbrev pub BaseAt : PlacedBook → (base i : ℕ) → Type 0
-BaseAt b base i = (bytes : List ℕ) → ReadFrom bytes b → baseBehind base (drop i (bookAt bytes b .rules)) ≡ «V» (bookAt bytes b)
-
-pub base-starts : (b : PlacedBook) (base : ℕ) → base ≡ firstBase (b .symbols) (rankBits (b .symbols)) → BaseAt b base 0
-unfolding «V»
-base-starts b base e bytes read =
-    ap (λ (x : ℕ). baseBehind x (bookAt bytes b .rules)) (e ∙ ap (λ (n : ℕ). firstBase n (rankBits n)) (sym (read-symbols read)))
-
-pub base-small : {b : PlacedBook} (base i : ℕ) → WasRead b → BaseAt b base i → base ≤ 7424
-base-small {b} base i was known =
-    omega (
-      arith,
-      known (was .bytes) (was .read),
-      base-grows base (drop i (bookAt (was .bytes) b .rules)),
-      variables-at-most (bookAt (was .bytes) b) (read-limits (was .read)),
-    )
-
 -- The rule's own base, and the base behind it.
 pub base-behind : {bytes : List ℕ} {b : PlacedBook} {base i : ℕ} (here : RuleHere bytes b base i) → baseAfter base (here .rule) ≡ base + 2 * (placedRule b base i .height * placedRule b base i .width)
 unfolding baseAfter
 base-behind {base = base} here = ap (λ (x : ℕ). base + 2 * x) (ap₂ _*_ (here .stands .left .nodes) (here .stands .right .nodes))
 
-pub base-goes-on :
-    {b : PlacedBook} → WasRead b → (base i : ℕ) → BaseAt b base i → i < b .rules → {c : PlacedRule} → c ≡ placedRule b base i →
+pub placed-goes-on :
+    {b : PlacedBook} (base i : ℕ) → BaseAt b base i → i < b .rules → {c : PlacedRule} → c ≡ placedRule b base i →
     BaseAt b (base + 2 * (c .height * c .width)) (i + 1)
-unfolding baseBehind
-base-goes-on {b} was base i known h e bytes read =
-    let here = rule-here read base i (base-small base i was known) h in
-    ap (λ (x : ℕ). baseBehind x (drop (i + 1) (bookAt bytes b .rules)))
-    (ap (λ (s : PlacedRule). base + 2 * (s .height * s .width)) e ∙ sym (base-behind here))
-    ∙ ap (baseBehind base) (sym (here .next))
-    ∙ known bytes read
-
-pub base-ends : {b : PlacedBook} (base i : ℕ) → BaseAt b base i → b .rules ≤ i → (bytes : List ℕ) → ReadFrom bytes b → base ≡ «V» (bookAt bytes b)
-unfolding baseBehind
-base-ends {b} base i known h bytes read =
-    ap (baseBehind base) (sym (drop-of-length-le (bookAt bytes b .rules) {i = i} (omega (arith, read-stands read .ruleCount)))) ∙ known bytes read
+unfolding placedRule
+placed-goes-on {b} base i known h e =
+    subst (λ (s : PlacedRule). BaseAt b (base + 2 * (s .height * s .width)) (i + 1)) (sym e) (base-goes-on base i known h)
 
 -- A rule has at most 100 pairs of nodes.
-pub few-nodes :
-    {b : PlacedBook} → WasRead b → (base i : ℕ) → BaseAt b base i → i < b .rules → {c : PlacedRule} → c ≡ placedRule b base i →
-    c .height * c .width ≤ 10 * 10
-few-nodes {b} was base i known h {c} e =
-    let here = rule-here (was .read) base i (base-small base i was known) h in
-    subst (λ (s : PlacedRule). s .height * s .width ≤ 10 * 10) (sym e)
-    (product (placedRule b base i .height) (placedRule b base i .width) 10 10 (here .stands .left .small) (here .stands .right .small))
+pub few-nodes : {b : PlacedBook} → WasRead b → (base i : ℕ) → i < b .rules → {c : PlacedRule} → c ≡ placedRule b base i → c .height * c .width ≤ 10 * 10
+unfolding placedRule
+few-nodes was base i h e = subst (λ (s : PlacedRule). s .height * s .width ≤ 10 * 10) (sym e) (rule-next (was .read) i h .few)

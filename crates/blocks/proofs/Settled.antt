@@ -15,10 +15,6 @@ use Rattle.blocks.specs.declared.Written.{Written}
 use Rattle.blocks.specs.declared.Written.the-variants.{Laid, Refused}
 use Rattle.blocks.proofs.writing.write_read_block.Kinds as write-read-block-kinds
 use Rattle.blocks.proofs.writing.write_read_block.Reads as write-read-block
-use Rattle.blocks.proofs.counting.variables.Kinds as variables-kinds
-use Rattle.blocks.proofs.counting.variables.Reads as variables
-use Rattle.blocks.proofs.counting.count_blocks.Kinds as count-blocks-kinds
-use Rattle.blocks.proofs.counting.count_blocks.Reads as count-blocks
 use Rattle.blocks.proofs.write_block.Kinds as write-block-kinds
 use Rattle.blocks.proofs.write_block.Reads as write-block
 
@@ -42,15 +38,3 @@ pub write-read-block-settled :
     (e e′ : AtExit (endedOf 2 write-read-block-kinds.ps write-read-block-kinds.r) κs) →
     write-read-block.Post κs a r e → write-read-block.Post κs a r′ e′ → (r ≡ r′) × (now (e .1 .1 .1 .0) ≡ now (e′ .1 .1 .1 .0))
 write-read-block-settled κs a r r′ e e′ p p′ = (written-apart r r′ (p .0 ∙ sym (p′ .0)), p .1 ∙ sym (p′ .1))
-
--- V of a read book.
-pub variables-settled :
-    (κs : Lfts 0) (a : Dens κs variables-kinds.ps) (r r′ : ℕ) (e e′ : AtExit (endedOf 0 variables-kinds.ps variables-kinds.r) κs) →
-    variables.Pre κs a → variables.Post κs a r e → variables.Post κs a r′ e′ → r ≡ r′
-variables-settled κs a r r′ e e′ was p p′ = p (was .bytes) (was .read) ∙ sym (p′ (was .bytes) (was .read))
-
--- How many blocks a read book has.
-pub count-blocks-settled :
-    (κs : Lfts 0) (a : Dens κs count-blocks-kinds.ps) (r r′ : ℕ) (e e′ : AtExit (endedOf 0 count-blocks-kinds.ps count-blocks-kinds.r) κs) →
-    count-blocks.Pre κs a → count-blocks.Post κs a r e → count-blocks.Post κs a r′ e′ → r ≡ r′
-count-blocks-settled κs a r r′ e e′ was p p′ = p (was .bytes) (was .read) ∙ sym (p′ (was .bytes) (was .read))

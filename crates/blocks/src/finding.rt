@@ -2,7 +2,6 @@
 use crate::bases::first_base;
 use crate::bases::placed_rule;
 use book::Book;
-use pair_blocks::pairs::pairs;
 use rule_blocks::PlacedRule;
 ghost use Prim.Native.Nat.{ℕ};
 ghost use mathlib.Core.List.{List};
@@ -48,7 +47,7 @@ pub fn find_block(book: Book, number: usize) -> Place
         return Place::Header;
     }
     let n = book.symbols;
-    let many = pairs(n);
+    let many = n * n - n;
     if number <= many {
         return Place::Pair(number - 1);
     }

@@ -1,9 +1,9 @@
 // "Block 0: `p cnf V M` and a newline, V the base after the last rule, M the number of clauses that follow."
 use crate::bases::first_base;
 use crate::bases::placed_rule;
-use crate::counting::variables;
 use book::Book;
-use pair_blocks::pairs::pairs_clauses;
+use counts::variables;
+use numbering::pairs_clauses;
 use rule_blocks::rules::rule_clauses;
 use text::writing::write_byte;
 use text::writing::write_decimal;

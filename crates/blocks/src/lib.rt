@@ -1,6 +1,5 @@
 // The block call: the blocks of a book's clause file by their numbers, laid into lent buffers. The definitions stand in specs/.
 mod bases;
-pub mod counting;
 mod finding;
 mod header;
 pub mod writing;

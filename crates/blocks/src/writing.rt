@@ -4,7 +4,7 @@ use crate::finding::Place;
 use crate::finding::find_block;
 use crate::header::write_header;
 use book::Book;
-use pair_blocks::pairs::write_pair;
+use pair_blocks::write_pair;
 use reply::Refusal;
 use rule_blocks::rules::write_rule_block;
 ghost use Prim.Native.Nat.{ℕ};

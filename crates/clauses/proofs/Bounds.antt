@@ -12,11 +12,11 @@ use Rattle.term.specs.Tables.{rankBits}
 use Rattle.term.proofs.Tables.{rank-bits-least}
 use Rattle.book.specs.Book.{Book, Rule, symbols}
 use Rattle.book.specs.Limits.{WithinLimits}
-use Rattle.clauses.specs.Cnf.{Literal, is, isNot, Clause}
+use Rattle.clauses.specs.Cnf.{Literal, is, isNot, Clause, variableOf}
 use Rattle.clauses.specs.Numbering.{firstBase, baseAfter}
 use Rattle.clauses.specs.Blocks.{blocks, baseBehind, «V»}
 use Rattle.clauses.specs.File.{literalBytes, clauseBytes, header, fileBlocks, countsText}
-use Rattle.clauses.proofs.Items.{Within, variableOf, Over}
+use Rattle.clauses.proofs.Items.{Within, Over}
 use Rattle.clauses.proofs.WithinV.{blocks-within-V}
 use Rattle.clauses.proofs.Counts.{Small, small-rules, clauses-at-most}
 use Rattle.clauses.proofs.Weights.{weight, block-weights}

@@ -18,12 +18,12 @@ use Rattle.reply.specs.Reply.{given}
 use Rattle.book.specs.Book.{Book}
 use Rattle.book.specs.Limits.{WithinLimits}
 use Rattle.book.specs.Reading.{readBook}
-use Rattle.clauses.specs.Cnf.{Literal, is, isNot, Clause}
+use Rattle.clauses.specs.Cnf.{Literal, is, isNot, Clause, variableOf}
 use Rattle.clauses.specs.File.{literalBytes, clauseBytes, header, fileBlocks, fileBytes, clauseFile, printed, clauseProgram, countsText}
 use Rattle.clauses.specs.Blocks.{blocks, «V»}
 use Rattle.clauses.specs.Dimacs.{blank, ahead, clausesOf, counted, behindHeader, fromWords, readDimacs}
 use Rattle.clauses.specs.Computing.{computing}
-use Rattle.clauses.proofs.Items.{Within, variableOf, Over, literalWord, item-literal, word-nonempty, word-no-blank, decimal-no-blank}
+use Rattle.clauses.proofs.Items.{Within, Over, literalWord, item-literal, word-nonempty, word-no-blank, decimal-no-blank}
 use Rattle.clauses.proofs.WithinV.{blocks-within-V}
 
 -- The words of a clause.

@@ -14,7 +14,7 @@ use Rattle.text.proofs.Decimal.{Digit, number-decimal, decimal-digits, decimal-
 use Rattle.reply.proofs.Every.{Every, every-implied}
 use Rattle.reply.proofs.Tests.{is-true, is-false}
 use Rattle.text.proofs.Words.{same-text}
-use Rattle.clauses.specs.Cnf.{Literal, is, isNot, Clause}
+use Rattle.clauses.specs.Cnf.{Literal, is, isNot, Clause, variableOf}
 use Rattle.clauses.specs.Item.{literal, signed, literalOf, item}
 use Rattle.clauses.specs.Dimacs.{blank}
 use Rattle.clauses.specs.Computing.{computing}
@@ -23,10 +23,6 @@ use Rattle.clauses.specs.Computing.{computing}
 pub record Within (top v : ℕ) : Type 0 where
   pub first : 1 ≤ v
   pub last : v ≤ top
-
-abbrev pub variableOf : Literal → ℕ
-variableOf (is v) = v
-variableOf (isNot v) = v
 
 -- A clause over the variables 1 to `top`.
 abbrev pub Over : (top : ℕ) → Clause → Type 0

@@ -7,10 +7,10 @@ use mathlib.Core.Logic.{_↔_}
 use mathlib.Core.Path.{_≡_, refl, sym, _∙_, ap, ap₂}
 use lib.Dec.{T, eqb}
 use Rattle.reply.proofs.Every.{Every, every-append, every-map}
-use Rattle.clauses.specs.Cnf.{Literal, is, isNot, Assignment, holds, someHolds, allHold}
+use Rattle.clauses.specs.Cnf.{Literal, is, isNot, variableOf, Assignment, holds, someHolds, allHold}
 use Rattle.clauses.specs.Wholes.{allParts, someParts}
 use Rattle.clauses.proofs.Equations.{everyTrue, someTrue}
-use Rattle.clauses.proofs.Items.{Within, variableOf, Over}
+use Rattle.clauses.proofs.Items.{Within, Over}
 use Rattle.clauses.proofs.ClauseLists.{tests-whether, allHold-append}
 
 -- "One-way clauses, from parts to whole, in place of equivalences: then a C may be true with no ground." Here 1 is the whole and true, and its

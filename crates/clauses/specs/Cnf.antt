@@ -9,6 +9,10 @@ pub data Literal : Type 0 where
   is : ℕ → Literal
   isNot : ℕ → Literal
 
+abbrev pub variableOf : Literal → ℕ
+variableOf (is v) = v
+variableOf (isNot v) = v
+
 -- A clause holds if one of its literals does.
 abbrev pub Clause : Type 0
 Clause = List Literal

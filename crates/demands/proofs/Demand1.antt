@@ -38,10 +38,10 @@ use Rattle.record.specs.declared.RecordFault.{RecordFault}
 use Rattle.record.specs.declared.RecordFault.the-variants.{EndedEarly, WrongKind, NotDeclared, TooManyNodes, AfterTheTerm}
 use Rattle.book.proofs.Refusals.{read-refuses}
 use Rattle.order.specs.Clearing.{allDecrease, ranksClear, checkRanks}
-use Rattle.clauses.specs.Cnf.{Literal}
+use Rattle.clauses.specs.Cnf.{Literal, variableOf}
 use Rattle.clauses.specs.Item.{Item, closing, literal, faulty}
 use Rattle.clauses.specs.File.{numberedBlock, blockOf, block}
-use Rattle.answer_lines.specs.Values.{Values, unclosed, closed, variableOf, named, itemAfter, itemsAfter}
+use Rattle.answer_lines.specs.Values.{Values, unclosed, closed, named, itemAfter, itemsAfter}
 use Rattle.answer_lines.specs.Lines.{Line, comment, verdict, values, noLine, Said, nothing, satisfied, noModel, verdictAfter, valuesAfter, lineAfter, linesAfter, lineOf, whole, readAnswer}
 use Rattle.answer.specs.Ranks.{ranksChecked, answered, ranksFromAnswer}
 use Rattle.steps.specs.Run.{ranCleared, run}

@@ -5,7 +5,7 @@ use Rattle.reply.specs.Reply.{Refusal, Reply, given, refused, _>>=_}
 use Rattle.reply.proofs.Given.{given-not-refused}
 use Rattle.book.proofs.Settled.{read-book-settled}
 use Rattle.blocks.proofs.Settled.{write-block-settled}
-use Rattle.order.proofs.Settled.{check-ranks-settled}
+use Rattle.clearing.proofs.Settled.{check-ranks-settled}
 use Rattle.answer.proofs.Settled.{ranks-from-answer-settled}
 use Rattle.running.proofs.Settled.{run-settled}
 use Rattle.asking.proofs.Settled.{argument-reply-settled}

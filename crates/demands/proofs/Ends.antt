@@ -9,10 +9,10 @@ use Rattle.reply.specs.Reply.{Refusal, Reply, given, refused, _>>=_}
 use Rattle.reply.specs.Lent.{laid, lengthOf}
 use Rattle.book.specs.Placed.{placed}
 use Rattle.book.proofs.Placed.{placed-means}
-use Rattle.order.specs.Meaning.{ranksMeaning}
+use Rattle.clearing.specs.Meaning.{ranksMeaning}
 use Rattle.order.specs.Clearing.{checkRanks}
-use Rattle.order.specs.declared.RanksVerdict.{RanksVerdict}
-use Rattle.order.specs.declared.RanksVerdict.the-variants as verdicts
+use Rattle.clearing.specs.declared.RanksVerdict.{RanksVerdict}
+use Rattle.clearing.specs.declared.RanksVerdict.the-variants as verdicts
 use Rattle.clauses.specs.File.{block}
 use Rattle.blocks.specs.Written.{writtenMeaning}
 use Rattle.blocks.specs.declared.Written.{Written}

@@ -5,7 +5,7 @@ use mathlib.Core.Path.{_≡_, refl}
 use denote.Ref.{now}
 use lib.ListN.{length}
 use Rattle.book.specs.Meaning.{meaning}
-use Rattle.order.specs.Meaning.{ranksMeaning}
+use Rattle.clearing.specs.Meaning.{ranksMeaning}
 use Rattle.blocks.specs.Written.{writtenMeaning}
 use Rattle.answer.specs.Answered.{answeredMeaning}
 use Rattle.asking.specs.Asked.{argumentMeaning}
@@ -18,10 +18,10 @@ use Rattle.blocks.proofs.write_block as write-block
 use Rattle.blocks.proofs.write_block.Kinds as write-block-kinds
 use Rattle.blocks.proofs.write_block.Reads as write-block-reads
 use Rattle.blocks.proofs.write_block.Symbol as write-block-symbol
-use Rattle.order.proofs.check_ranks as check-ranks
-use Rattle.order.proofs.check_ranks.Kinds as check-ranks-kinds
-use Rattle.order.proofs.check_ranks.Reads as check-ranks-reads
-use Rattle.order.proofs.check_ranks.Symbol as check-ranks-symbol
+use Rattle.clearing.proofs.check_ranks as check-ranks
+use Rattle.clearing.proofs.check_ranks.Kinds as check-ranks-kinds
+use Rattle.clearing.proofs.check_ranks.Reads as check-ranks-reads
+use Rattle.clearing.proofs.check_ranks.Symbol as check-ranks-symbol
 use Rattle.answer.proofs.ranks_from_answer as ranks-from-answer
 use Rattle.answer.proofs.ranks_from_answer.Kinds as ranks-from-answer-kinds
 use Rattle.answer.proofs.ranks_from_answer.Reads as ranks-from-answer-reads

@@ -1,8 +1,8 @@
 // The next step of a record before it is made: the rule that it takes, and the place. Who follows a run step by step asks for it.
 use book::Book;
 use book::BookVerdict;
+use clearing::RanksVerdict;
 use matching::first_place;
-use order::RanksVerdict;
 use record::RecordVerdict;
 use reply::Refusal;
 ghost use mathlib.Core.Path.{_≡_};
@@ -52,7 +52,7 @@ pub fn next_step(book: &[u8], ranks: &[u8], record: &[u8]) -> NextStep
         return NextStep::Refused(refusal);
     }
     let places = read.book;
-    let cleared = order::ranks_clear(book, places, ranks);
+    let cleared = clearing::ranks_clear(book, places, ranks);
     if let RanksVerdict::Refused(refusal) = cleared {
         return NextStep::Refused(refusal);
     }

@@ -11,11 +11,5 @@ pub mod Kept
 pub mod Ends
 pub mod PathOrder
 pub mod Among
-pub mod Stepwise
-pub mod Compared
-pub mod Lowest
-pub mod Filled
 pub mod SameRanks
-pub mod Verdicts
-pub mod Settled
 pub mod NewVariable

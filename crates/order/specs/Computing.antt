@@ -3,7 +3,6 @@ use Rattle.book.specs.Computing
 use Rattle.order.specs.Precedence.{Above, above}
 use Rattle.order.specs.Test.{everyArg, someArg, decreaseAt, reaches, case1Holds, case2Holds, case3Holds, atRoot, exceedsIn, exceeds}
 use Rattle.order.specs.Clearing.{Decreases, AllDecrease, decreases, allDecrease, ranksClear, checkRanks}
-use Rattle.order.specs.Meaning.{ranksMeaning}
 
 -- Of comparing terms.
 unfoldable pub comparing : Unit {0}
@@ -11,5 +10,5 @@ unfolding Above above everyArg someArg decreaseAt reaches case1Holds case2Holds 
 comparing = tt
 
 unfoldable pub computing : Unit {0}
-unfolding Computing.computing comparing Decreases AllDecrease decreases allDecrease ranksClear checkRanks ranksMeaning
+unfolding Computing.computing comparing Decreases AllDecrease decreases allDecrease ranksClear checkRanks
 computing = tt

@@ -1,9 +1,7 @@
 pub mod Precedence
 pub mod Exceeds
 pub mod Test
-pub mod Compared
 pub mod Clearing
 pub mod SameRanks
-pub mod Meaning
 pub mod ReductionOrder
 pub mod Computing

@@ -1,2 +1,2 @@
-pub mod PairNumbers
+pub mod PairClauses
 pub mod Settled

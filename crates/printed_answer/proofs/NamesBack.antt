@@ -14,9 +14,9 @@ use Rattle.reply.proofs.Tests.{passed}
 use Rattle.reply.proofs.Given.{refused-not-given, bind-given, unless-given}
 use Rattle.reply.proofs.Every.{Every, every-member}
 use Rattle.text.specs.Text.{ascii}
-use Rattle.clauses.specs.Cnf.{Literal, is, Assignment}
+use Rattle.clauses.specs.Cnf.{Literal, is, Assignment, variableOf}
 use Rattle.clauses.specs.Item.{Item, closing, literal, faulty, item}
-use Rattle.answer_lines.specs.Values.{Values, unclosed, closed, variableOf, names, named, itemAfter, itemsAfter}
+use Rattle.answer_lines.specs.Values.{Values, unclosed, closed, names, named, itemAfter, itemsAfter}
 use Rattle.answer_lines.specs.Values.{valued}
 use Rattle.printed_answer.specs.WellFormed.{Spaced, literalText, spaces, itemText, spacedText, timesNamed, Names}
 use Rattle.printed_answer.proofs.Spaces.{Gap, gapText}

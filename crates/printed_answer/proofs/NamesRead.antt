@@ -10,10 +10,9 @@ use lib.Dec.{eqb}
 use borrow.Author.Tests.{eq-eqb, ne-eqb}
 use Rattle.reply.specs.Reply.{Refusal, given, _>>=_}
 use Rattle.reply.proofs.Every.{Every, every-of-members}
-use Rattle.clauses.specs.Cnf.{Literal, is, isNot, Assignment}
-use Rattle.clauses.proofs.Items as Items
+use Rattle.clauses.specs.Cnf.{Literal, is, isNot, Assignment, variableOf}
 use Rattle.clauses.proofs.Items.{Within, item-literal}
-use Rattle.answer_lines.specs.Values.{unclosed, variableOf, names, named, itemAfter, itemsAfter}
+use Rattle.answer_lines.specs.Values.{unclosed, names, named, itemAfter, itemsAfter}
 use Rattle.answer_lines.specs.Values.{valued}
 use Rattle.answer_lines.proofs.Naming.{once, other}
 use Rattle.printed_answer.specs.WellFormed.{literalText, timesNamed, Names}
@@ -39,7 +38,7 @@ not-named v (l ∷ ls) e = go (ℕ-discrete (variableOf l) v) (not-named v ls)
 
 -- The value of a variable goes by its positive literal.
 pub valued-elsewhere : (l : Literal) (v : ℕ) (ls : List Literal) → (variableOf l ≡ v → ⊥) → valued (l ∷ ls) v ≡ valued ls v
-unfolding valued variableOf
+unfolding valued
 valued-elsewhere (is u) v ls d = rw (ne-eqb u v d)
 valued-elsewhere (isNot u) v ls d = refl
 
@@ -79,13 +78,13 @@ valued-member v (is u ∷ ls) e = go (ℕ-discrete u v) (valued-member v ls)
   where
     go : Dec (u ≡ v) → (valued ls v ≡ true → List·Memᴰ (is v) ls) → List·Memᴰ (is v) (is u ∷ ls)
     go (yes q) behind = List·Memᴰ·head (ap (λ (w : ℕ). is w) (sym q))
-    go (no d) behind = List·Memᴰ·tail (behind (sym (valued-elsewhere (is u) v ls (unfold variableOf in d)) ∙ e))
+    go (no d) behind = List·Memᴰ·tail (behind (sym (valued-elsewhere (is u) v ls d) ∙ e))
 valued-member v (isNot u ∷ ls) e = List·Memᴰ·tail (valued-member v ls e)
 
 module _ (variables rankVariables : ℕ) (α : Assignment) where
   -- Literals that were read, and those that follow: together they name no rank variable twice, and tell each.
   pub record Sofar (had rest : List Literal) : Type 0 where
-    pub within : Every (λ l. Within variables (Items.variableOf l)) rest
+    pub within : Every (λ l. Within variables (variableOf l)) rest
     pub once : (v : ℕ) → v ≤ rankVariables → timesNamed v had + timesNamed v rest ≤ 1
     pub told : (v : ℕ) → 1 ≤ v → v ≤ rankVariables → (valued rest v || valued had v) ≡ α v
 
@@ -93,9 +92,9 @@ module _ (variables rankVariables : ℕ) (α : Assignment) where
   pub none-yet : (ls : List Literal) → Names variables rankVariables α ls → Sofar [] ls
   none-yet ls names = record { within = every-of-members _ ls inside; once = few; told = value }
     where
-      inside : (l : Literal) → List·Memᴰ l ls → Within variables (Items.variableOf l)
-      inside (is v) m = unfold variableOf in record { first = names .within (is v) m .0; last = names .within (is v) m .1 }
-      inside (isNot v) m = unfold variableOf in record { first = names .within (isNot v) m .0; last = names .within (isNot v) m .1 }
+      inside : (l : Literal) → List·Memᴰ l ls → Within variables (variableOf l)
+      inside (is v) m = record { first = names .within (is v) m .0; last = names .within (is v) m .1 }
+      inside (isNot v) m = record { first = names .within (isNot v) m .0; last = names .within (isNot v) m .1 }
 
       few : (v : ℕ) → v ≤ rankVariables → timesNamed v [] + timesNamed v ls ≤ 1
       few v h = unfold timesNamed in omega (arith, names .once v h)
@@ -152,7 +151,7 @@ module _ (variables rankVariables : ℕ) (α : Assignment) where
         )
 
     next-read :
-        (l : Literal) → Within variables (Items.variableOf l) → (had had′ : List Literal) → named fault rankVariables l had ≡ given (unclosed had′) →
+        (l : Literal) → Within variables (variableOf l) → (had had′ : List Literal) → named fault rankVariables l had ≡ given (unclosed had′) →
         (ws : List (List ℕ)) →
         itemsAfter fault variables rankVariables (unclosed had) (literalText l ∷ ws) ≡ itemsAfter fault variables rankVariables (unclosed had′) ws
     unfolding itemsAfter itemAfter _>>=_

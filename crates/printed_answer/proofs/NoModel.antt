@@ -12,9 +12,9 @@ use Rattle.reply.specs.Reply.{Refusal, Reply, given, refused, unless, _>>_, _>>
 use Rattle.reply.proofs.Given.{refused-not-given, given-not-refused, bind-given, given-bind}
 use Rattle.reply.proofs.Every.{Every, every-append}
 use Rattle.text.specs.Text.{ascii, pieces, newline}
-use Rattle.clauses.specs.Cnf.{Literal, Assignment}
+use Rattle.clauses.specs.Cnf.{Literal, Assignment, variableOf}
 use Rattle.clauses.specs.Item.{Item, closing, literal, faulty, item}
-use Rattle.answer_lines.specs.Values.{Values, unclosed, closed, variableOf, names, named, itemAfter, itemsAfter}
+use Rattle.answer_lines.specs.Values.{Values, unclosed, closed, names, named, itemAfter, itemsAfter}
 use Rattle.answer_lines.specs.Lines.{
   Line,
   comment,

@@ -12,9 +12,8 @@ use Rattle.text.specs.Decimal.{decimal, valueOf, number}
 use Rattle.text.specs.Text.{ascii, sameText}
 use Rattle.text.proofs.LastDigit.{decimal-digit, decimal-last}
 use Rattle.text.proofs.Words.{same-text}
-use Rattle.clauses.specs.Cnf.{Literal, is, isNot}
+use Rattle.clauses.specs.Cnf.{Literal, is, isNot, variableOf}
 use Rattle.clauses.specs.Item.{Item, closing, literal, faulty, signed, literalOf, item}
-use Rattle.answer_lines.specs.Values.{variableOf}
 use Rattle.printed_answer.specs.WellFormed.{literalText}
 
 -- One more digit behind a number above 0.
@@ -96,10 +95,10 @@ literal-back variables [] = tt
 literal-back variables (b ∷ bs) = go (sameText (b ∷ []) (ascii "-")) refl
   where
     own-is : (v : ℕ) → variableOf (is v) ≡ v
-    own-is v = unfold variableOf in refl
+    own-is v = refl
 
     own-isNot : (v : ℕ) → variableOf (isNot v) ≡ v
-    own-isNot v = unfold variableOf in refl
+    own-isNot v = refl
 
     go :
         (t : Bool) → sameText (b ∷ []) (ascii "-") ≡ t →

@@ -14,13 +14,12 @@ use Rattle.reply.proofs.Every.{Every, every-member}
 use Rattle.term.specs.Tables.{rankBits}
 use Rattle.book.specs.Book.{Book, symbols}
 use Rattle.book.specs.Limits.{WithinLimits}
-use Rattle.clauses.specs.Cnf.{Literal, is, isNot, Assignment, holds}
+use Rattle.clauses.specs.Cnf.{Literal, is, isNot, Assignment, holds, variableOf}
 use Rattle.clauses.specs.Numbering.{numbers, firstBase}
 use Rattle.clauses.specs.Blocks.{«V»}
 use Rattle.clauses.proofs.Bounds.{variables-at-most}
 use Rattle.clauses.proofs.Numbers.{base-grows}
 use Rattle.clauses.proofs.Numbered.{bits-before-rules}
-use Rattle.answer_lines.specs.Values.{variableOf}
 use Rattle.printed_answer.specs.WellFormed.{spacedText, allEnded, allLiterals, timesNamed, Names, WellFormed}
 use Rattle.printed_answer.specs.Usual.{trueLiteral, singly, usual, usualAnswer}
 use Rattle.printed_answer.specs.Computing.{writing}
@@ -29,7 +28,7 @@ use Rattle.printed_answer.proofs.Taken.{literalsOf}
 
 module _ (α : Assignment) where
   own-variable : (v : ℕ) → variableOf (trueLiteral α v) ≡ v
-  unfolding trueLiteral variableOf
+  unfolding trueLiteral
   own-variable v = go (α v) refl
     where
       go : (b : Bool) → α v ≡ b → variableOf (trueLiteral α v) ≡ v

@@ -8,8 +8,7 @@ use lib.Dec.{eqb}
 use lib.ListN.{replicate}
 use Rattle.text.specs.Decimal.{decimal}
 use Rattle.text.specs.Text.{ascii}
-use Rattle.clauses.specs.Cnf.{Literal, is, isNot, Assignment}
-use Rattle.answer_lines.specs.Values.{variableOf}
+use Rattle.clauses.specs.Cnf.{Literal, is, isNot, Assignment, variableOf}
 
 -- "Lines starting with c": the bytes behind the c, none of them a newline.
 pub record Remark : Type 0 where

@@ -3,7 +3,7 @@
 use answer::Answered;
 use number_text::write_counted;
 use number_text::write_line;
-use order::RanksVerdict;
+use clearing::RanksVerdict;
 use reply::Refusal;
 use text::wide;
 use text::writing::write_byte;
@@ -12,7 +12,7 @@ ghost use lib.ListN.{take};
 ghost use Rattle.reply.specs.Refusals.{numbered};
 ghost use Rattle.text.specs.Laying.{Lays};
 ghost use Rattle.text.specs.Text.{refusedLine};
-ghost use Rattle.order.specs.Meaning.{ranksMeaning};
+ghost use Rattle.clearing.specs.Meaning.{ranksMeaning};
 ghost use Rattle.answer.specs.Answered.{answeredMeaning};
 ghost use Rattle.reply_lines.specs.Lines.{verdictLines, numbersText, acceptedLines, rankLines};
 

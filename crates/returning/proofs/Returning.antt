@@ -6,7 +6,7 @@ use denote.Triple.Adequate.{adequate}
 use borrow.Fn.World.{World}
 use Rattle.book.proofs.read_book.Met as read-book
 use Rattle.blocks.proofs.write_block.Met as write-block
-use Rattle.order.proofs.check_ranks.Met as check-ranks
+use Rattle.clearing.proofs.check_ranks.Met as check-ranks
 use Rattle.answer.proofs.ranks_from_answer.Met as ranks-from-answer
 use Rattle.running.proofs.run.Met as run
 use Rattle.asking.proofs.argument_reply.Met as argument-reply

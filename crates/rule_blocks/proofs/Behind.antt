@@ -13,7 +13,7 @@ use Rattle.clauses.specs.Numbering.{C}
 use Rattle.clauses.specs.Blocks.{Numbered, numberedArgs, Setting, CAt, partsBehind}
 use Rattle.rule_blocks.specs.Nodes.{settingOf, WithinMaximum}
 use Rattle.rule_blocks.specs.declared.PlacedRule.{PlacedRule}
-use Rattle.pair_blocks.proofs.PairNumbers.{product}
+use Rattle.numbering.proofs.Small.{product}
 use Rattle.rule_blocks.proofs.Walk.{FirstNode, first-node}
 
 map-same : {A B : Type 0} (f g : A → B) → ((x : A) → f x ≡ g x) → (l : List A) → map f l ≡ map g l

@@ -23,6 +23,7 @@ pub record RuleStands (bytes arities : List ℕ) (c : PlacedRule) (rule : Rule) 
   pub left : SmallSide bytes arities (c .left) (c .height) (rule .left)
   pub right : SmallSide bytes arities (c .right) (c .width) (rule .right)
 
+-- Some rule stands at these places: what a function asks that promises of whichever rule it is.
 pub record SomeRule (bytes arities : List ℕ) (c : PlacedRule) : Type 0 where
   pub rule : Rule
   pub stands : RuleStands bytes arities c rule

@@ -7,7 +7,7 @@ use clause_bytes::parts::write_all_parts;
 use clause_bytes::parts::write_some_parts;
 use clause_bytes::writing::Literal;
 use clause_bytes::writing::write_clause_of_one;
-use pair_blocks::pairs::larger_number;
+use numbering::larger_number;
 use text::wide;
 ghost use Prim.Native.Nat.{ℕ, _+_, _*_, _≤_};
 ghost use mathlib.Core.List.{_∷_, _++_, map, flatMap};

@@ -15,7 +15,7 @@ use Rattle.book.specs.declared.BookVerdict.the-variants.{Refused}
 use Rattle.book.specs.declared.ReadBook.{ReadBook}
 use Rattle.book.proofs.WasRead.{read-refused, read-given, read-stands}
 use Rattle.clauses.specs.File.{fileBlocks}
-use Rattle.blocks.proofs.RulesWalk.{read-symbols}
+use Rattle.counts.proofs.ReadRules.{read-symbols}
 use Rattle.rulebook.specs.Replies.{bookReply}
 
 -- The book was not read.

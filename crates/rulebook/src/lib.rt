@@ -4,9 +4,9 @@ mod replies;
 use answer::Answered;
 use asking::ArgumentReply;
 use blocks::Written;
-use blocks::counting::count_blocks;
+use counts::count_blocks;
 use book::BookVerdict;
-use order::RanksVerdict;
+use clearing::RanksVerdict;
 pub use replies::BookReply;
 pub use replies::PartReply;
 pub use replies::RanReply;
@@ -59,7 +59,7 @@ pub extern "C" fn rulebook_read_book(book: &[u8]) -> BookReply
 pub extern "C" fn rulebook_check_ranks(book: &[u8], ranks: &[u8]) -> Verdict
     ensures { λ r. ⌜ r ≡ verdictReply (checkRanks (now (book .entry)) (now (ranks .entry))) ⌝ }
 {
-    let checked = order::check_ranks(book, ranks);
+    let checked = clearing::check_ranks(book, ranks);
     match checked {
         RanksVerdict::Accepted => Verdict {
             refusal: 0,

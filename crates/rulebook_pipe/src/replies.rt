@@ -45,7 +45,7 @@ pub fn lay(call: u8, n: u64, bytes: &[u8], text: &[u8], record: &[u8], out: &mut
     ensures { λ r. ⌜ r ≤ length (now (out .entry)) ⌝ }
 {
     match call {
-        b'c' => write_verdict(order::check_ranks(bytes, text), out),
+        b'c' => write_verdict(clearing::check_ranks(bytes, text), out),
         b'a' => ranks(bytes, text, out),
         b'r' => run(bytes, text, record, n, out),
         b'n' => write_step(next_step::next_step(bytes, text, record), out),

@@ -1,7 +1,7 @@
 // The run: steps against a budget.
 use book::Book;
 use book::BookVerdict;
-use order::RanksVerdict;
+use clearing::RanksVerdict;
 use record::RecordVerdict;
 use reply::Refusal;
 pub use stepping::Outcome;
@@ -169,7 +169,7 @@ pub fn run(book: &[u8], ranks: &[u8], record: &[u8], budget: u64, out: &mut [u8]
         return RunReply::Refused(refusal);
     }
     let places = read.book;
-    let cleared = order::ranks_clear(book, places, ranks);
+    let cleared = clearing::ranks_clear(book, places, ranks);
     if let RanksVerdict::Refused(refusal) = cleared {
         return RunReply::Refused(refusal);
     }

@@ -5,7 +5,7 @@ use answer::Answered;
 use asking::ArgumentReply;
 use blocks::Written;
 use book::BookVerdict;
-use order::RanksVerdict;
+use clearing::RanksVerdict;
 use record::RecordVerdict;
 use running::Outcome;
 use running::RunReply;
@@ -51,7 +51,7 @@ pub(crate) fn block(book: &[u8], number: u64, wanted: u64, buffer: &mut [u8]) {
 }
 
 pub(crate) fn ranks(book: &[u8], ranks: &[u8]) {
-    let verdict = order::check_ranks(book, ranks);
+    let verdict = clearing::check_ranks(book, ranks);
     match verdict {
         RanksVerdict::Accepted => show::text(b"accepted"),
         RanksVerdict::Refused(refusal) => show::refused(refusal),

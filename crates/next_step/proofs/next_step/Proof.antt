@@ -8,7 +8,7 @@ use Rattle.book.specs.Meaning.{bookAt}
 use Rattle.book.specs.WasRead.{ReadFrom}
 use Rattle.book.proofs.WasRead.{read-from, read-given, read-refused}
 use Rattle.order.specs.Clearing.{ranksClear}
-use Rattle.order.specs.Meaning.{ranksMeaning}
+use Rattle.clearing.specs.Meaning.{ranksMeaning}
 use Rattle.steps.proofs.NextAsked.{not-read, not-cleared, cleared}
 use Rattle.next_step.specs.NextMeaning.{nextMeaning}
 use Rattle.next_step.proofs.next_step.Statement.{statement}

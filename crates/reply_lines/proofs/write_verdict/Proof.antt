@@ -1,7 +1,7 @@
 -- `write_verdict` meets its contract. Assumes nothing.
 use borrow.Author.Needs.{needs}
 use Rattle.text.specs.Text.{ascii}
-use Rattle.order.specs.Meaning.{ranksMeaning}
+use Rattle.clearing.specs.Meaning.{ranksMeaning}
 use Rattle.reply_lines.specs.Lines.{verdictLines}
 use Rattle.reply_lines.proofs.write_verdict.Statement.{statement}
 use Rattle.reply_lines.proofs.write_verdict.Tie as tie

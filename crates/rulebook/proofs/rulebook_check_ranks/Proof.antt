@@ -1,8 +1,8 @@
 -- `rulebook_check_ranks` meets its contract: the answer means the reply. Assumes nothing.
 use mathlib.Core.Path.{sym, ap, _∙_}
 use borrow.Author.Needs.{needs}
-use Rattle.order.specs.Meaning.{ranksMeaning}
-use Rattle.order.specs.declared.RanksVerdict.{RanksVerdict}
+use Rattle.clearing.specs.Meaning.{ranksMeaning}
+use Rattle.clearing.specs.declared.RanksVerdict.{RanksVerdict}
 use Rattle.rulebook.specs.Replies.{verdictReply}
 use Rattle.rulebook.specs.declared.replies.Verdict.{Verdict}
 use Rattle.rulebook.proofs.rulebook_check_ranks.Statement.{statement}

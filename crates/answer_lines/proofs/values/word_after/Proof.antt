@@ -3,7 +3,7 @@
 use mathlib.Core.Path.{refl, sym, ap, _∙_}
 use borrow.Author.Needs.{needs}
 use Rattle.clauses.specs.Cnf.{is, isNot}
-use Rattle.answer_lines.specs.Values.{variableOf, itemAfter}
+use Rattle.answer_lines.specs.Values.{itemAfter}
 use Rattle.items.specs.Meaning.{itemMeaning}
 use Rattle.items.proofs.OneItem.{is-from-one, is-not-from-one}
 use Rattle.answer_lines.proofs.OneWord.{word-refused, word-taken}
@@ -47,14 +47,14 @@ returns-2 c =
     (sym (c .before .before .read-item .ensures) ∙ ap itemMeaning (c .enum-told2 .given .1)) _ _ (λ ls t. (refl, t))
 
 returns-3 : tie.Need-returns-3
-unfolding itemAfter variableOf
+unfolding itemAfter
 returns-3 c =
     λ fault. word-taken fault _ _ _ _ _ (c .before .before .before .before .before .before .enum-told .given .1)
     (sym (c .before .before .before .before .before .read-item .ensures) ∙ ap itemMeaning (c .before .before .before .v .given .1)) _ _
     (λ ls t. c .named .ensures fault (is _) ls refl refl t)
 
 returns-4 : tie.Need-returns-4
-unfolding itemAfter variableOf
+unfolding itemAfter
 returns-4 c =
     λ fault. word-taken fault _ _ _ _ _ (c .before .before .before .before .before .before .enum-told .given .1)
     (sym (c .before .before .before .before .before .read-item .ensures) ∙ ap itemMeaning (c .before .before .before .v2 .given .1)) _ _

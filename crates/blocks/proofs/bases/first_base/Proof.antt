@@ -4,7 +4,7 @@ use Prim.Native.Nat.{_≤_, _*_}
 use mathlib.Core.Path.{ap}
 use native.Mathlib.Omega.{arith}
 use Rattle.clauses.specs.Numbering.{firstBase}
-use Rattle.pair_blocks.proofs.PairNumbers.{product}
+use Rattle.numbering.proofs.Small.{product}
 use Rattle.clauses.proofs.RankBits.{rank-bits-few}
 use Rattle.blocks.proofs.bases.first_base.Statement.{statement}
 use Rattle.blocks.proofs.bases.first_base.Tie as tie

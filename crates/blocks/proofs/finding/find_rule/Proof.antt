@@ -4,7 +4,8 @@ use mathlib.Core.Path.{_≡_, refl}
 use native.Mathlib.Omega.{arith}
 use borrow.Author.Needs.{needs}
 use Rattle.blocks.proofs.RulesBlocks.{Sought, sought-starts, sought-goes-on, sought-found, sought-none}
-use Rattle.blocks.proofs.RulesWalk.{BaseAt, base-starts, base-small, base-goes-on, few-nodes, read-few-symbols, read-few-rules}
+use Rattle.counts.proofs.ReadRules.{BaseAt, base-starts, base-small, read-few-symbols, read-few-rules}
+use Rattle.blocks.proofs.RulesWalk.{placed-goes-on, few-nodes}
 use Rattle.blocks.proofs.finding.find_rule.Statement.{statement}
 use Rattle.blocks.proofs.finding.find_rule.Tie as tie
 
@@ -21,7 +22,7 @@ module _ (c : tie.After-struct-known Inv-loop μ-loop) where
   small = base-small (c .before .before .before .loop .base) (c .before .before .before .loop .i) (c .before .before .before .before .before .pre) (c .before .before .before .loop .inv .2)
 
   few : c .before .placed-rule .result .height * c .before .placed-rule .result .width ≤ 100
-  few = few-nodes (c .before .before .before .before .before .pre) (c .before .before .before .loop .base) (c .before .before .before .loop .i) (c .before .before .before .loop .inv .2) (omega arith) (c .before .placed-rule .ensures)
+  few = few-nodes (c .before .before .before .before .before .pre) (c .before .before .before .loop .base) (c .before .before .before .loop .i) (omega arith) (c .before .placed-rule .ensures)
 
 first-base-requires : tie.Need-first-base-requires Inv-loop μ-loop
 first-base-requires c κs = read-few-symbols (c .pre .read)
@@ -67,7 +68,7 @@ loop-again : tie.Need-loop-again Inv-loop μ-loop
 loop-again c = (
   omega arith,
   c .before .before .before .before .loop .inv .1,
-  base-goes-on (c .before .before .before .before .before .before .pre) (c .before .before .before .before .loop .base) (c .before .before .before .before .loop .i) (c .before .before .before .before .loop .inv .2) (omega arith) (c .before .before .placed-rule .ensures),
+  placed-goes-on (c .before .before .before .before .loop .base) (c .before .before .before .before .loop .i) (c .before .before .before .before .loop .inv .2) (omega arith) (c .before .before .placed-rule .ensures),
   sought-goes-on (c .before .before .before .before .before .before .args .number) (c .before .before .before .before .loop .base) (c .before .before .before .before .loop .i) (c .before .before .before .before .loop .rest) (small (c .before)) (c .before .before .before .before .loop .inv .3) (omega arith) (c .before .before .placed-rule .ensures) (c .if1 .left),
 )
 

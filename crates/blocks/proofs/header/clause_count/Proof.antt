@@ -7,7 +7,8 @@ use Rattle.book.specs.WasRead.{WasRead}
 use Rattle.rule_blocks.specs.Rules.{SomeRule}
 use Rattle.rule_blocks.specs.declared.PlacedRule.{PlacedRule}
 use Rattle.blocks.proofs.RulesBlocks.{Counted, counted-starts, counted-goes-on, counted-ends}
-use Rattle.blocks.proofs.RulesWalk.{BaseAt, base-starts, base-small, base-goes-on, few-nodes, rule-here, read-few-symbols, read-few-rules}
+use Rattle.counts.proofs.ReadRules.{BaseAt, base-starts, base-small, read-few-symbols, read-few-rules}
+use Rattle.blocks.proofs.RulesWalk.{placed-goes-on, few-nodes, rule-here}
 use Rattle.blocks.proofs.header.clause_count.Statement.{statement}
 use Rattle.blocks.proofs.header.clause_count.Tie as tie
 
@@ -27,7 +28,7 @@ module _ (c : tie.After-placed-rule Inv-loop μ-loop) where
   small = base-small (c .before .before .loop .base) (c .before .before .loop .i) was (c .before .before .loop .inv .2)
 
   few : c .placed-rule .result .height * c .placed-rule .result .width ≤ 100
-  few = few-nodes was (c .before .before .loop .base) (c .before .before .loop .i) (c .before .before .loop .inv .2) (omega arith) (c .placed-rule .ensures)
+  few = few-nodes was (c .before .before .loop .base) (c .before .before .loop .i) (omega arith) (c .placed-rule .ensures)
 
   some-rule : SomeRule (c .before .before .before .before .before .before .before .args .bytes .now) (c .before .before .before .before .before .before .before .args .book .arities) (c .placed-rule .result)
   some-rule =
@@ -78,7 +79,7 @@ loop-again : tie.Need-loop-again Inv-loop μ-loop
 loop-again c = (
   omega arith,
   c .before .before .before .before .loop .inv .1,
-  base-goes-on (was (c .before .before)) (c .before .before .before .before .loop .base) (c .before .before .before .before .loop .i) (c .before .before .before .before .loop .inv .2) (omega arith) (c .before .before .placed-rule .ensures),
+  placed-goes-on (c .before .before .before .before .loop .base) (c .before .before .before .before .loop .i) (c .before .before .before .before .loop .inv .2) (omega arith) (c .before .before .placed-rule .ensures),
   counted-goes-on (c .before .before .before .before .before .before .before .before .before .pre) (c .before .before .before .before .loop .base) (c .before .before .before .before .loop .i) (c .before .before .before .before .loop .clauses) (small (c .before .before)) (c .before .before .before .before .loop .inv .3) (omega arith) (c .before .before .placed-rule .ensures)
       (c .before .rule-clauses .result)
       (c .before .rule-clauses .ensures .1),

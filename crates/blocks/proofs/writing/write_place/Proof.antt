@@ -3,7 +3,7 @@ use borrow.Author.Needs.{needs}
 use mathlib.Core.Path.{sym, _∙_}
 use Rattle.blocks.proofs.FileBlocks.{header-text, pair-text, no-text, pair-there, rule-there}
 use Rattle.text.proofs.Laying.{lays-as}
-use Rattle.blocks.proofs.RulesWalk.{read-few-symbols}
+use Rattle.counts.proofs.ReadRules.{read-few-symbols}
 use Rattle.blocks.proofs.writing.write_place.Statement.{statement}
 use Rattle.blocks.proofs.writing.write_place.Tie as tie
 

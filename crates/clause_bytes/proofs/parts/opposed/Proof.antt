@@ -1,3 +1,4 @@
+-- `parts::opposed` meets its contract: by the sign that the whole has. Assumes nothing.
 use borrow.Author.Needs.{needs}
 use Rattle.clause_bytes.specs.Meaning.{meant, against}
 use Rattle.clause_bytes.proofs.parts.opposed.Statement.{statement}

@@ -16,6 +16,7 @@ use Rattle.term.proofs.same_at.Reads as same-at-reads
 use Rattle.rule_blocks.proofs.nodes.+one_identical.{statement}
 use Rattle.rule_blocks.proofs.nodes.+one_identical.Tie.{close}
 
+-- The number that falls, what the function is given at a number and below it, and what its calls ask and answer.
 abbrev μ-one-identical : Measures 1 one-identical-kinds.ps ℕ
 μ-one-identical κs a = a .1 .1 .1 .1 .0
 
@@ -34,6 +35,7 @@ one-identical-below t =
 abbrev calls : ℕ → one-identical-lts.Claims
 calls t = (same-at-reads.Asked, same-at-reads.Learnt, node-behind-reads.Asked, node-behind-reads.Learnt, one-identical-below t, one-identical.Post)
 
+-- What is asked on the way, and the answers.
 one-identical-returns : (t : ℕ) → one-identical-lts.Need-returns (calls t) (one-identical-at t) one-identical.Post
 one-identical-returns t c = λ ss t′ d e hs ht. identical-none _ _ _ t′ hs (c .if1 .taken)
 

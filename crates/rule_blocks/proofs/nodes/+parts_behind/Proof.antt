@@ -22,6 +22,7 @@ use Rattle.term.proofs.same_at.Reads as same-at-reads
 use Rattle.rule_blocks.proofs.nodes.+parts_behind.{statement}
 use Rattle.rule_blocks.proofs.nodes.+parts_behind.Tie.{close}
 
+-- The number that falls, what the function is given at a number and below it, and what its calls ask and answer.
 abbrev μ-parts-behind : Measures 1 parts-behind-kinds.ps ℕ
 μ-parts-behind κs a = a .1 .1 .1 .1 .1 .1 .0
 
@@ -40,6 +41,7 @@ parts-behind-below t =
 abbrev calls : ℕ → parts-behind-lts.Claims
 calls t = (no-parts-reads.Asked, no-parts-reads.Learnt, node-behind-reads.Asked, node-behind-reads.Learnt, same-at-reads.Asked, same-at-reads.Learnt, parts-behind-below t, parts-behind.Post, c-number-reads.Asked, c-number-reads.Learnt, with-part-reads.Asked, with-part-reads.Learnt, parts-along-reads.Asked, parts-along-reads.Learnt)
 
+-- What is asked on the way, and the answers.
 parts-behind-no-parts-requires : (t : ℕ) → parts-behind-lts.Need-no-parts-requires (calls t) (parts-behind-at t) parts-behind.Post
 parts-behind-no-parts-requires t c κs = search needs
 

@@ -5,7 +5,7 @@ use native.Mathlib.Omega.{arith}
 use Rattle.clauses.specs.Numbering.{C}
 use Rattle.clauses.specs.Blocks.{CAt}
 use Rattle.rule_blocks.specs.Nodes.{settingOf}
-use Rattle.pair_blocks.proofs.PairNumbers.{product}
+use Rattle.numbering.proofs.Small.{product}
 use Rattle.rule_blocks.proofs.nodes.c_number.Statement.{statement}
 use Rattle.rule_blocks.proofs.nodes.c_number.Tie as tie
 

@@ -4,7 +4,7 @@ use mathlib.Core.Path.{_≡_, refl}
 use native.Mathlib.Omega.{arith}
 use borrow.Author.Needs.{needs}
 use Rattle.clause_bytes.specs.Meaning.{partsIn}
-use Rattle.pair_blocks.proofs.PairNumbers.{product}
+use Rattle.numbering.proofs.Small.{product}
 use Rattle.rule_blocks.proofs.Walk.{Walked, walk-starts, walk-node, walk-goes-on, walk-ends}
 use Rattle.rule_blocks.proofs.nodes.parts_along.Statement.{statement}
 use Rattle.rule_blocks.proofs.nodes.parts_along.Tie as tie

@@ -11,7 +11,7 @@ use Rattle.clauses.specs.Blocks.{ruleBlocks}
 use Rattle.rule_blocks.specs.Nodes.{settingOf}
 use Rattle.rule_blocks.specs.Rules.{RuleStands}
 use Rattle.clauses.proofs.Lists.{flatten-next}
-use Rattle.pair_blocks.proofs.PairNumbers.{product}
+use Rattle.numbering.proofs.Small.{product}
 use Rattle.rule_blocks.proofs.RuleNumbers.{blocks-counted}
 use Rattle.rule_blocks.proofs.rules.rule_clauses.Statement.{statement}
 use Rattle.rule_blocks.proofs.rules.rule_clauses.Tie as tie

@@ -1,0 +1,4 @@
+pub mod Lowest
+pub mod Filled
+pub mod Verdicts
+pub mod Settled

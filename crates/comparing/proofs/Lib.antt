@@ -1,0 +1,3 @@
+pub mod Stepwise
+pub mod Compared
+pub mod Settled

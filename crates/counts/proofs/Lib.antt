@@ -1,0 +1,3 @@
+pub mod ReadRules
+pub mod BlockCount
+pub mod Settled
