@@ -4,7 +4,7 @@ use mathlib.Core.Bool.{Bool, true, false, not, _||_}
 use mathlib.Core.List.{List, [], _∷_}
 use lib.Dec.{leb, eqb}
 use Rattle.reply.specs.Reply.{Refusal, Reply, given, refused, unless, _>>_, _>>=_}
-use Rattle.clauses.specs.Cnf.{Literal, is, isNot, Assignment}
+use Rattle.clauses.specs.Cnf.{Literal, is, isNot, Assignment, variableOf}
 use Rattle.clauses.specs.Item.{Item, closing, literal, faulty, item}
 
 -- How far the values have come, with the literals of the rank variables that were named.

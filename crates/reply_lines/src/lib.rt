@@ -1,9 +1,9 @@
 // The lines by which the programs tell a refusal, a verdict and ranks. Each function lays its text onto the start of the buffer that is
 // lent to it, as far as it fits, and answers how many bytes it laid; a program writes those and nothing else.
 use answer::Answered;
+use clearing::RanksVerdict;
 use number_text::write_counted;
 use number_text::write_line;
-use clearing::RanksVerdict;
 use reply::Refusal;
 use text::wide;
 use text::writing::write_byte;
