@@ -42,6 +42,8 @@ use Rattle.printed_answer.proofs.UsualBytes.{usual-bytes}
 use Rattle.steps.specs.Run.{Yields, run, runFrom}
 use Rattle.steps.proofs.OwnStep.{own-step-is-free}
 use Rattle.steps.proofs.Run.{run-yields, run-settled}
+use Rattle.clauses.proofs.Maximum.{rank-bits-are-least, blocks-within-512, variables-at-maximum}
+use Rattle.order.proofs.NewVariable.{new-variable-never-decreases}
 use Rattle.demands.specs.EntryPoints.{Bytes}
 use Rattle.demands.specs.Demand2.{
   BooksAreRead,
@@ -203,4 +205,8 @@ demand2 =
       runs = run-yields-its;
       onlyOneRun = yields-once;
       ownSteps = own-step-is-free;
+      leastBits = rank-bits-are-least;
+      variables = variables-at-maximum;
+      blocks = blocks-within-512;
+      newVariable = new-variable-never-decreases;
     }

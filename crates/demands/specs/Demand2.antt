@@ -15,9 +15,10 @@ use Rattle.book.specs.Limits.{WithinLimits}
 use Rattle.book.specs.Reading.{readBook}
 use Rattle.record.specs.Record.{recordBytes, readRecord}
 use Rattle.order.specs.Precedence.{StrictPrecedence, Above}
-use Rattle.order.specs.Clearing.{Clears, checkRanks}
+use Rattle.order.specs.Clearing.{Clears, checkRanks, NewVariableNeverDecreases}
 use Rattle.clauses.specs.Cnf.{Cnf, Literal, Assignment, Satisfies}
 use Rattle.clauses.specs.Numbering.{ranksOf}
+use Rattle.clauses.specs.Bounds.{RankBitsLeast, VariablesAtMaximum, BlocksWithin512}
 use Rattle.clauses.specs.Blocks.{«V»}
 use Rattle.clauses.specs.File.{clauseProgram}
 use Rattle.clauses.specs.Dimacs.{readDimacs}
@@ -167,3 +168,8 @@ pub record Demand2 : Type 1 where
   pub runs : RunYields
   pub onlyOneRun : YieldsOnce
   pub ownSteps : OwnStepIsFree
+  -- The sizes that document 01 states of the clause file, and that a rule with a new variable on its right never decreases.
+  pub leastBits : RankBitsLeast
+  pub variables : VariablesAtMaximum
+  pub blocks : BlocksWithin512
+  pub newVariable : NewVariableNeverDecreases
