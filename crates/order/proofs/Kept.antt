@@ -7,7 +7,7 @@ use Rattle.term.specs.Replacement.{Replacement, replace, replaceAll, Occurs, Oc
 use Rattle.order.specs.Exceeds.{Exceeds, DecreaseAt, ExceedsEvery, SomeReaches, case1, case2, case3, here, further, none, both, identical, exceeding, later}
 use Rattle.order.specs.ReductionOrder.{AtOneArgument, inFirst, inLater}
 
-count-replaced : (σ : Replacement) (ts : Args) → count (replaceAll σ ts) ≡ count ts
+pub count-replaced : (σ : Replacement) (ts : Args) → count (replaceAll σ ts) ≡ count ts
 unfolding replace count
 count-replaced σ nil = refl
 count-replaced σ (cons t ts) = ap suc (count-replaced σ ts)

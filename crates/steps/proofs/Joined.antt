@@ -9,6 +9,7 @@ use Rattle.term.specs.Term.{Term, Args, var, app, nil, cons, count}
 use Rattle.term.specs.Root.{arguments}
 use Rattle.term.specs.Prefix.{prefix, prefixes}
 use Rattle.term.specs.Replacement.{Replacement, replace, replaceAll, OccursIn, it, under, first, later}
+use Rattle.order.proofs.Kept.{count-replaced}
 use Rattle.term.proofs.At.{joined}
 
 pub prefixes-joined : (ss ts : Args) → prefixes (joined ss ts) ≡ prefixes ss ++ prefixes ts
@@ -20,11 +21,6 @@ pub replaceAll-joined : (σ : Replacement) (ss ts : Args) → replaceAll σ (joi
 unfolding replace joined
 replaceAll-joined σ nil ts = refl
 replaceAll-joined σ (cons s ss) ts = ap (cons (replace σ s)) (replaceAll-joined σ ss ts)
-
-pub count-replaceAll : (σ : Replacement) (ts : Args) → count (replaceAll σ ts) ≡ count ts
-unfolding replace count
-count-replaceAll σ nil = refl
-count-replaceAll σ (cons t ts) = ap suc (count-replaceAll σ ts)
 
 joined-injective : (ss us ts vs : Args) → count ss ≡ count us → joined ss ts ≡ joined us vs → (ss ≡ us) × (ts ≡ vs)
 unfolding joined count
@@ -71,7 +67,7 @@ roots-passed σ f (app g as′) (var y) ls ss p q c = no-symbol q
 roots-passed σ f (app g as′) (app h bs) ls ss p q c = (
   λ made. replaceAll-joined σ as′ ls ∙ ap₂ joined (cc) (cc),
   λ made.
-      let (front, rest) = joined-injective (replaceAll σ as′) bs (replaceAll σ ls) ss (count-replaceAll σ as′ ∙ c) (sym (replaceAll-joined σ as′ ls) ∙ made) in
+      let (front, rest) = joined-injective (replaceAll σ as′) bs (replaceAll σ ls) ss (count-replaced σ as′ ∙ c) (sym (replaceAll-joined σ as′ ls) ∙ made) in
       ap₂ cons (ap₂ app (cc) front) rest,
 )
 

@@ -14,7 +14,7 @@ use Rattle.term.specs.Term.{Term, Args, var, app, nil, cons, count, over, overs
 use Rattle.term.specs.Replacement.{Replacement, replace, replaceAll, Occurs, OccursIn, it, under, first, later}
 use Rattle.book.specs.Book.{Rule}
 use Rattle.steps.specs.Step.{ruleOf, Step, StepInside, atRoot, inside, inFirst, inLater}
-use Rattle.steps.proofs.Joined.{count-replaceAll}
+use Rattle.order.proofs.Kept.{count-replaced}
 
 module _ (arities : List ℕ) where
   -- The parts of an application over the symbols.
@@ -32,7 +32,7 @@ module _ (arities : List ℕ) where
     over-replaced σ (var x) o h = h x it
     over-replaced σ (app f ts) o h =
         and-both (Root f (replaceAll σ ts)) (overs arities (replaceAll σ ts))
-        (root-as-many f ts (replaceAll σ ts) (count-replaceAll σ ts) (and-left (Root f ts) (overs arities ts) o))
+        (root-as-many f ts (replaceAll σ ts) (count-replaced σ ts) (and-left (Root f ts) (overs arities ts) o))
         (overs-replaced σ ts (and-right (Root f ts) (overs arities ts) o) (λ x i. h x (under i)))
 
     overs-replaced :
