@@ -23,21 +23,21 @@ use Rattle.blocks.specs.Written.{writtenMeaning}
 use Rattle.blocks.specs.declared.Written.{Written}
 use Rattle.blocks.specs.declared.Written.the-variants.{Laid, Refused}
 
--- What the contract asks of an answer and of the lent buffer, for the reply x on paper.
-abbrev pub Allowed : Reply (List ℕ) → (buffer : List ℕ) → Written → (after : List ℕ) → Type 0
-Allowed x buffer r after = (writtenMeaning r ≡ lengthOf x) × (after ≡ laid x buffer)
+-- The answer and what is left in the lent buffer are as the reply x on paper says.
+abbrev pub WritesAs : Reply (List ℕ) → (buffer : List ℕ) → Written → (after : List ℕ) → Type 0
+WritesAs x buffer r after = (writtenMeaning r ≡ lengthOf x) × (after ≡ laid x buffer)
 
-refusal-allowed : {x : Reply (List ℕ)} (buffer : List ℕ) (why : Named) → x ≡ refused (numbered why) → Allowed x buffer (Refused why) buffer
+refusal-allowed : {x : Reply (List ℕ)} (buffer : List ℕ) (why : Named) → x ≡ refused (numbered why) → WritesAs x buffer (Refused why) buffer
 unfolding lengthOf laid writtenMeaning
 refusal-allowed buffer why e = rw e (refl, refl)
 
 module _ (book : Book) (number : ℕ) (buffer : List ℕ) where
-  pub none-laid : getElem? (fileBlocks book) number ≡ none → Allowed (blockOf book number (length buffer)) buffer (Refused NoSuchBlock) buffer
+  pub none-laid : getElem? (fileBlocks book) number ≡ none → WritesAs (blockOf book number (length buffer)) buffer (Refused NoSuchBlock) buffer
   unfolding numbered
   none-laid e = refusal-allowed buffer NoSuchBlock (no-block book number (length buffer) e)
 
   module _ {text : List ℕ} (there : getElem? (fileBlocks book) number ≡ some text) where
-    pub short-buffer : length buffer < 512 → Allowed (blockOf book number (length buffer)) buffer (Refused ShortBuffer) buffer
+    pub short-buffer : length buffer < 512 → WritesAs (blockOf book number (length buffer)) buffer (Refused ShortBuffer) buffer
     unfolding numbered
     short-buffer h = refusal-allowed buffer ShortBuffer (short-room book number (length buffer) there h)
 
@@ -48,7 +48,7 @@ module _ (book : Book) (number : ℕ) (buffer : List ℕ) where
 
     pub block-laid :
         WithinLimits book → 512 ≤ length buffer → {many : ℕ} {after : List ℕ} → Lays text buffer many after →
-        Allowed (blockOf book number (length buffer)) buffer (Laid many) after
+        WritesAs (blockOf book number (length buffer)) buffer (Laid many) after
     unfolding writtenMeaning lengthOf laid
     block-laid limits h {many} laid =
         let all = whole limits h laid in
@@ -61,11 +61,11 @@ module _ (book : Book) (number : ℕ) (buffer : List ℕ) where
 
 -- The book's own refusals come first.
 module _ (bytes : List ℕ) (number : ℕ) (buffer : List ℕ) where
-  pub unreadable : (why : Named) → readBook bytes ≡ refused (numbered why) → Allowed (block bytes number (length buffer)) buffer (Refused why) buffer
+  pub unreadable : (why : Named) → readBook bytes ≡ refused (numbered why) → WritesAs (block bytes number (length buffer)) buffer (Refused why) buffer
   unfolding block _>>=_
   unreadable why e = refusal-allowed buffer why (rw (e, _>>=_))
 
   pub of-read-book :
-      (book : Book) → readBook bytes ≡ given book → (r : Written) (after : List ℕ) → Allowed (blockOf book number (length buffer)) buffer r after →
-      Allowed (block bytes number (length buffer)) buffer r after
+      (book : Book) → readBook bytes ≡ given book → (r : Written) (after : List ℕ) → WritesAs (blockOf book number (length buffer)) buffer r after →
+      WritesAs (block bytes number (length buffer)) buffer r after
   of-read-book book read r after allowed = rw (block-of-read bytes number (length buffer) book read) allowed

@@ -8,6 +8,11 @@ use Rattle.steps.specs.NextStep.{lowest, takenAt, takenIn, nextCleared, 
 use Rattle.steps.specs.Run.{runFrom, ranCleared, run, ranBytes}
 use Rattle.steps.specs.Argument.{partOf, argumentOf, argument}
 
+-- A step.
+unfoldable pub stepping : Unit {0}
+unfolding Fits standing bound matching fits chosen applied rewritten stepOf orElse lowest takenAt takenIn
+stepping = tt
+
 unfoldable pub computing : Unit {0}
-unfolding Record.computing Computing.computing Fits standing bound matching fits chosen applied rewritten stepOf orElse lowest takenAt takenIn nextCleared nextStep runFrom ranCleared run ranBytes partOf argumentOf argument
+unfolding Record.computing Computing.computing stepping nextCleared nextStep runFrom ranCleared run ranBytes partOf argumentOf argument
 computing = tt

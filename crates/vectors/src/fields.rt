@@ -9,14 +9,7 @@ pub fn next(text: &[u8], at: usize, mark: u8) -> usize
     ensures onward { λ r. ⌜ at ≤ r ⌝ }
     ensures counts { λ r. ⌜ Counts r (now (text .entry)) ⌝ }
 {
-    let mut i = at;
-    while i < text.len() {
-        if text[i] == mark {
-            return i;
-        }
-        i += 1;
-    }
-    i
+    words::next(text, at, mark)
 }
 
 // What stands behind the first word.

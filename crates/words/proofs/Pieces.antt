@@ -19,7 +19,7 @@ module _ (ends : ℕ → Bool) where
   unfolding upTo
   up-to-further b bs e = rw (e, upTo)
 
-  up-to-length : (text : List ℕ) → upTo ends text ≤ length text
+  pub up-to-length : (text : List ℕ) → upTo ends text ≤ length text
   unfolding upTo
   up-to-length [] = omega arith
   up-to-length (b ∷ bs) = go (ends b) refl (up-to-length bs)

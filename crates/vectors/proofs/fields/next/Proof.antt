@@ -1,48 +1,23 @@
--- `fields::next` stays between `at` and the length, and ends: `i` counts up to the length. Assumes nothing.
-use Rattle.io.proofs.Counting.{counts}
-use Prim.Native.Nat.{_≤_, _-_}
+-- `fields::next` is the next place by `words`, and so lies between `at` and the text's length. Assumes nothing.
+use native.Mathlib.Omega.{arith}
+use lib.Dec.{eqb}
+use lib.ListN.{drop, length-drop}
+use denote.Ref.{now}
 use borrow.Author.Needs.{needs}
-use lib.ListN.{length}
+use Rattle.io.proofs.Counting.{counts}
+use Rattle.words.proofs.Pieces.{up-to-length}
 use Rattle.vectors.proofs.fields.next.Statement.{statement}
 use Rattle.vectors.proofs.fields.next.Tie as tie
 
-abbrev Inv-loop : tie.InvT-loop
-Inv-loop text at mark i₀ i = (at ≤ i) × (i ≤ length text)
+next-requires : tie.Need-next-requires
+next-requires c κs = search needs
 
-abbrev μ-loop : tie.MeasureT-loop
-μ-loop text at mark i₀ i = length text - i
-
-loop-holds : tie.Need-loop-holds Inv-loop μ-loop
-loop-holds c = search needs
-
-shared-slice-read-if1 : tie.Need-shared-slice-read-if1 Inv-loop μ-loop
-shared-slice-read-if1 c = search needs
-
-returns : tie.Need-returns Inv-loop μ-loop
-returns c = (search needs, counts _ _ (search needs))
-
-add-i : tie.Need-add-i Inv-loop μ-loop
-add-i c = search needs
-
-loop-less : tie.Need-loop-less Inv-loop μ-loop
-loop-less c = search needs
-
-loop-again : tie.Need-loop-again Inv-loop μ-loop
-loop-again c = search needs
-
-returns-2 : tie.Need-returns-2 Inv-loop μ-loop
-returns-2 c = (search needs, counts _ _ (search needs))
+returns : tie.Need-returns
+returns c =
+    let text = now (c .before .before .args .text) in
+    let at = c .before .before .args .at in
+    let few = up-to-length (λ b. eqb b (c .before .before .args .mark)) (drop at text) in
+    (omega (arith, c .next .ensures), counts _ _ (omega (arith, c .next .ensures, few, length-drop at text, c .before .before .pre)))
 
 pub next-spec : {M : Type 1} → statement M
-next-spec =
-    tie.close
-    (tie.spec
-    Inv-loop
-    μ-loop
-    loop-holds
-    shared-slice-read-if1
-    returns
-    add-i
-    loop-less
-    loop-again
-    returns-2)
+next-spec = tie.close (tie.spec next-requires returns)
