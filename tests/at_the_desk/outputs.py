@@ -2,6 +2,7 @@
 import hashlib
 import json
 import os
+import pty
 import stat
 import subprocess
 
@@ -15,9 +16,12 @@ def targets():
         os.mkfifo(room.at("fifo"))
         os.mkdir(room.at("folder"))
         os.link(room.at("one_rule.book"), room.at("hard"))
+        # a device that nobody can replace, not even a broken desk that root runs
+        ours, theirs = pty.openpty()
+        device = os.ttyname(theirs)
         left = "and is left as it is; --ranks FILE names another place"
         read = "that is to be read; --ranks FILE names another place"
-        for name, kind in (("link", "a link"), ("dangling", "a link"), ("fifo", "a pipe"), ("folder", "a folder"), ("/dev/null", "a device")):
+        for name, kind in (("link", "a link"), ("dangling", "a link"), ("fifo", "a pipe"), ("folder", "a folder"), (device, "a device")):
             room.expect(2, "", f"{name} is {kind}, {left}", "clear", "one_rule.book", "--ranks", name, seconds=20)
         for name in ("one_rule.book", "./one_rule.book", "hard"):
             room.expect(2, "", f"{name} is the file one_rule.book {read}", "clear", "one_rule.book", "--ranks", name)
@@ -26,7 +30,9 @@ def targets():
         os.symlink("short", room.at("one_rule.book.ranks.of"))
         room.expect(2, "", f"one_rule.book.ranks.of is a link, {left}", "clear", "one_rule.book")
         os.unlink(room.at("one_rule.book.ranks.of"))
-        holds("/dev/null is still there", stat.S_ISCHR(os.lstat("/dev/null").st_mode))
+        holds("the device is still there", stat.S_ISCHR(os.lstat(device).st_mode))
+        os.close(ours)
+        os.close(theirs)
         room.write("one_rule.book.ranks", b"older")
         os.link(room.at("one_rule.book.ranks"), room.at("other_name"))
         room.clears("one_rule.book.ranks", "clear", "one_rule.book")
