@@ -95,6 +95,7 @@ module _ (rel : ℕ → ℕ → Type 0) (test : Term → Term → Bool) (sound :
   case1_sound f ss (app g ts) h =
       subst (λ (k : ℕ). Exceeds rel (app f ss) (app k ts)) (eqb→eq f g (and_left (eqb f g) (decrease_at test (app f ss) ss ts) h))
       (case1 (decrease_sound (app f ss) ss ts (and_right (eqb f g) (decrease_at test (app f ss) ss ts) h)))
+  case1_sound f ss (var _) h = elim h [ ]
 
   case2_sound :
       (higher : ℕ → ℕ → Bool) → ((f g : ℕ) → T (higher f g) → rel f g) → (f : ℕ) (ss : Args) (t : Term) → T (case2_holds higher test f ss t) →
@@ -103,6 +104,7 @@ module _ (rel : ℕ → ℕ → Type 0) (test : Term → Term → Bool) (sound :
   case2_sound higher sound-higher f ss (app g ts) h =
       case2 (sound-higher f g (and_left (higher f g) (every_arg (test (app f ss)) ts) h))
       (every_sound (app f ss) ts (and_right (higher f g) (every_arg (test (app f ss)) ts) h))
+  case2_sound higher sound-higher f ss (var _) h = elim h [ ]
 
   case3_sound : (f : ℕ) (ss : Args) (t : Term) → T (case3_holds test ss t) → Exceeds rel (app f ss) t
   unfolding case3_holds
@@ -156,6 +158,7 @@ module _
   some_complete (cons s ss) t fits (exceeding e) =
       or_left (reaches test t s) (some_arg (reaches test t) ss) (or_right (same s t) (test s t) (complete s t (omega arith) e))
   some_complete (cons s ss) t fits (later l) = or_right (reaches test t s) (some_arg (reaches test t) ss) (some_complete ss t (omega arith) l)
+  some_complete nil t fits x'' = elim x'' [ ]
 
   decrease_complete :
       (s : Term) (ss ts : Args) → size s + sizes ts ≤ bound → sizes ss + sizes ts ≤ bound → DecreaseAt rel s ss ts → T (decrease_at test s ss ts)
@@ -169,6 +172,8 @@ module _
   decrease_complete s (cons a ss) (cons b ts) fits fits' (further d) =
       or_right (test a b && every_arg (test s) ts && eqb (count ss) (count ts)) (same a b && decrease_at test s ss ts)
       (and_both (same a b) (decrease_at test s ss ts) (same_refl a) (decrease_complete s ss ts (omega arith) (omega arith) d))
+  decrease_complete s nil ts fits fits' x3 = elim x3 [ ]
+  decrease_complete s (cons a ss) nil fits fits' x7 = elim x7 [ ]
 
   root_complete :
       (higher : ℕ → ℕ → Bool) → ((f g : ℕ) → rel f g → T (higher f g)) → (f : ℕ) (ss : Args) (t : Term) → size (app f ss) + size t ≤ suc bound →
@@ -195,6 +200,7 @@ module _ (rel : ℕ → ℕ → Type 0) (higher : ℕ → ℕ → Bool) (decided
   in_complete zero s t fits e = let p : 1 ≤ size s = size_positive s in omega arith
   in_complete (suc fuel) (app f ss) t fits e =
       root_complete rel (exceeds_in fuel higher) fuel (in_complete fuel) higher (λ f g. (decided f g).1) f ss t fits e
+  in_complete (suc fuel) (var _) t fits e = elim e [ ]
 
   pub exceeds_in_decides : (fuel : ℕ) (s t : Term) → size s + size t ≤ fuel → T (exceeds_in fuel higher s t) ↔ Exceeds rel s t
   exceeds_in_decides fuel s t fits = (in_sound fuel s t, in_complete fuel s t fits)

@@ -72,6 +72,7 @@ module _ {above : ℕ → ℕ → Type 0} where
     every_occurs : {s : Term} {ts : Args} {x : ℕ} → ExceedsEvery above s ts → OccursIn x ts → Occurs x s
     every_occurs (both e every) (first o) = exceeds_occurs e o
     every_occurs (both e every) (behind o) = every_occurs every o
+    every_occurs (none {s = s}) x18 = elim x18 [ ]
 
     some_occurs : {ss : Args} {t : Term} {x : ℕ} → SomeReaches above ss t → Occurs x t → OccursIn x ss
     some_occurs identical o = first o
