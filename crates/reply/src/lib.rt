@@ -1,4 +1,6 @@
 // What an answer means on paper. The definitions stand in specs/.
+#![tactic(auto)]
+
 ghost use Rattle.std.specs.Prelude.{◌≡◌};
 ghost use Rattle.reply.specs.Refusals.{numbered, in_numbers};
 
@@ -31,6 +33,7 @@ pub struct NumberAt {
 }
 
 // The number and the place of a refusal.
+#[tactic(auto, unfolding(crate::specs::Refusals::numbered))]
 pub fn numbered(refusal: Refusal) -> NumberAt
     ensures { result ≡ in_numbers (numbered refusal) }
 {

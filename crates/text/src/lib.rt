@@ -1,4 +1,6 @@
 // Texts as bytes: numbers and texts laid onto a lent buffer. The definitions stand in specs/.
+#![tactic(auto)]
+
 pub mod writing;
 
 ghost use Rattle.std.specs.Prelude.{◌≡◌};

@@ -1,0 +1,5 @@
+-- The measure of `write_decimal`: the number.
+use Rattle.text.proofs.writing.+write_decimal.Given as goal
+
+abbrev pub decreases-write_decimal : goal.decreases-write_decimal
+decreases-write_decimal l = l.n
