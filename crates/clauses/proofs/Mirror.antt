@@ -1,7 +1,7 @@
 -- The parts mirror the order: where C agrees with the test `exceeds` at smaller pairs of subterms and G with the ranks, all of D's parts
 -- are true exactly if case (1) or (2) holds, and some of C's exactly if the order does. Assumes nothing.
 use Prim.Native.Nat.{ℕ, suc, ◌+◌, ◌<◌}
-use mathlib.Core.Bool.{Bool, true, false, ◌&&◌, ◌||◌, and-true, or_false, or_assoc, or_comm}
+use mathlib.Core.Bool.{Bool, true, false, ◌&&◌, ◌||◌, and-true, or-false, or_assoc, or_comm}
 use mathlib.Core.List.{List, [], ◌∷◌, ◌++◌, map, Memᴰ}
 use mathlib.Core.Logic.{◌≢◌}
 use mathlib.Core.Path.{◌≡◌, refl, sym, ◌∙◌, ap, ap₂, subst}
@@ -87,7 +87,7 @@ module _ (c : Setting) (α : Assignment) (ranks : List ℕ) where
           (every_mirrored s (CAt c x y) (y + size b) ts (λ b' m. whole b' (Memᴰ.tail m))
           ∙ ap (λ (v : Bool). v && every_arg (exceeds ranks s.term) ts)
           (agree (record { node = x; term = a }) (record { node = y; term = b }) (Memᴰ.head refl) (Memᴰ.head refl))
-          ∙ simp (or_false, and-true))
+          ∙ simp (or-false, and-true))
 
 module _ (arities : List ℕ) (f : ℕ) (ts : Args) (o : T (over arities (app f ts))) where
   declared : f < length arities
@@ -124,7 +124,7 @@ module _ (c : Setting) (α : Assignment) (ranks arities : List ℕ)
           let lengths : count ss ≡ count ts = sym (arity_many arities f ss os) ∙ ap (λ (h : ℕ). get_or arities h 0) (eqb-true f g e) ∙ arity_many arities g ts ot in
           rw (parts_of_d, e, not_above_itself ranks f g (eqb-true f g e))
           (behind_mirrored c α ranks (record { node = u; term = app f ss }) (suc u) (suc v) ss ts lengths agree.whole_with_argument agree.argument_with_argument
-          ∙ sym (or_false (decrease_at (exceeds ranks) (app f ss) ss ts)))
+          ∙ sym (or-false (decrease_at (exceeds ranks) (app f ss) ss ts)))
       go false e =
           rw (parts_of_d, e)
           (every_mirrored c α ranks (record { node = u; term = app f ss }) (G c.n c.k f g c.k) (suc v) ts agree.whole_with_argument
@@ -161,7 +161,7 @@ module _ (c : Setting) (α : Assignment) (ranks : List ℕ) where
       some_true α (map (λ (sᵢ : Numbered). CAt c sᵢ.node t.node) (numbered_args x ss) ++ (q ∷ []))
       ≡ (some_arg (λ sᵢ. exceeds ranks sᵢ t.term) ss || α q)
   unfolding some_true some_arg numbered_args
-  some_mirrored t q x nil agree = or_false (α q)
+  some_mirrored t q x nil agree = or-false (α q)
   some_mirrored t q x (cons s ss) agree =
       ap₂ ◌||◌
       (agree (record { node = x; term = s }) (Memᴰ.head refl))
@@ -172,7 +172,7 @@ module _ (c : Setting) (α : Assignment) (ranks : List ℕ) where
       (u v : ℕ) (s t : Term) → AgreesBelow c α ranks (record { node = u; term = s }) (record { node = v; term = t }) →
       α (DAt c u v) ≡ root_cases ranks s t → exceeds ranks s t ≡ (some_identical s t || some_true α (parts_of_c c u v s))
   unfolding parts_of_c some_identical root_cases arguments_at some_true
-  whole_at u v (var x) t agree root = exceeds_var ranks x t ∙ sym root ∙ sym (or_false (α (DAt c u v)))
+  whole_at u v (var x) t agree root = exceeds_var ranks x t ∙ sym root ∙ sym (or-false (α (DAt c u v)))
   whole_at u v (app f ss) t agree root =
       let identical = some_arg (λ sᵢ. same sᵢ t) ss in
       let exceeding = some_arg (λ sᵢ. exceeds ranks sᵢ t) ss in

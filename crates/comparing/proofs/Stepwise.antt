@@ -1,7 +1,7 @@
 -- The order's test one case and one argument at a time, each stopping at once: what decides it, and what is left to ask otherwise.
 -- That an identical argument does not exceed, and that a symbol is not above itself, is what lets it stop. Assumes nothing.
 use Prim.Native.Nat.{ℕ}
-use mathlib.Core.Bool.{Bool, true, false, ◌&&◌, ◌||◌, or_false, or-true}
+use mathlib.Core.Bool.{Bool, true, false, ◌&&◌, ◌||◌, or-false, or-true}
 use mathlib.Core.List.{List}
 use mathlib.Core.Path.{◌≡◌, refl, sym, ap, subst, ◌∙◌}
 use native.Mathlib.Omega.{arith}
@@ -130,13 +130,13 @@ module _ (ranks : List ℕ) where
           let none : case3_holds (exceeds ranks) ss (app g ts) ≡ false = rw right at e in
           at_left t
           ∙ rw (right, left, at_root, none)
-          (or_false (eqb f g && decrease_at (exceeds ranks) (app f ss) ss ts || above ranks f g && every_arg (exceeds ranks (app f ss)) ts))
+          (or-false (eqb f g && decrease_at (exceeds ranks) (app f ss) ss ts || above ranks f g && every_arg (exceeds ranks (app f ss)) ts))
 
       pub root_above : above ranks f g ≡ true → exceeds ranks s t ≡ every_arg (exceeds ranks s) ts
       root_above h = two_roots ∙ rw (h, ne_eqb f g (above_another f g h))
 
       pub root_equal : above ranks f g ≡ false → f ≡ g → exceeds ranks s t ≡ decrease_at (exceeds ranks) s ss ts
-      root_equal h p = two_roots ∙ rw (h, eq-eqb f g p) (or_false (decrease_at (exceeds ranks) s ss ts))
+      root_equal h p = two_roots ∙ rw (h, eq-eqb f g p) (or-false (decrease_at (exceeds ranks) s ss ts))
 
       pub root_fails : above ranks f g ≡ false → (f ≡ g → ⊥) → exceeds ranks s t ≡ false
       root_fails h p = two_roots ∙ rw (h, ne_eqb f g p)

@@ -1,5 +1,5 @@
 -- The entry points return: each routine meets its contract, which the toolchain's adequacy carries to the machine. Assumes nothing.
-use prog.Routine.{any_name}
+use prog.Routine.{anyName}
 use contract.Running.{alone}
 use denote.Triple.Spec.{Meets}
 use denote.Triple.Adequate.{adequate}
@@ -45,7 +45,7 @@ returns :
     (c : Contract) → ((w : World) → Meets w.𝓛 c.signature (w.𝓡.run c.routine) (c.contract w)) → Returns c
 unfolding alone
 returns c met w handed memory frame holds =
-    adequate w.𝓤 w.𝓛.H w.𝓜 (alone w.𝓤 w.𝓛.H w.𝓜 w.𝓡 c.routine) any_name _ (met w) handed memory frame holds
+    adequate w.𝓤 w.𝓛.H w.𝓜 (alone w.𝓤 w.𝓛.H w.𝓜 w.𝓡 c.routine) anyName _ (met w) handed memory frame holds
 
 pub ends_in_code : EndsInCode
 unfolding functions functions_of_c
