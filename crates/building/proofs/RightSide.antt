@@ -38,6 +38,7 @@ all_ahead {r = r} σ h = record {
   where
     only : {x : ℕ} → OccursIn x (cons r nil) → Occurs x r
     only (first o) = o
+    only (later x4) = elim x4 [ ]
 
 symbol_bytes :
     (σ : Replacement) (f : ℕ) (t : Term) (ts : Args) → t ≡ app f (arguments t) →

@@ -43,6 +43,7 @@ one_variable : (n : ℕ) {x : ℕ} → Occurs x (deep n) → x ≡ 0
 unfolding deep
 one_variable zero it = refl
 one_variable (suc n) (under (first o)) = one_variable n o
+one_variable (suc n) (under (later x9)) = elim x9 [ ]
 
 side : SideWithinLimits (replicate 16 1) (deep 9)
 unfolding computing deep

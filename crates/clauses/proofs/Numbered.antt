@@ -105,6 +105,7 @@ unfolding first_base
 pairs_room (suc m) k h =
     let e : suc m - 1 ≡ m = omega arith in
     rw (e, ← add-mul) (ap (λ (x : ℕ). x * k) (add_comm (suc m) (suc m * m) ∙ sym (mul-suc (suc m) m)))
+pairs_room zero k h = elim h [ ]
 
 pub bits_before_rules : (n k : ℕ) → n * k ≤ first_base n k
 bits_before_rules zero k = rw zero-mul zero-le

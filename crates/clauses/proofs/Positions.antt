@@ -62,6 +62,7 @@ position (next e o) (Memᴰ.tail m) =
     let q = p.counted in
     let r = p.inside in
     record { at = suc p.at; counted = omega arith; inside = omega arith; found = p.found }
+position {s = s} (none {u = u}) x4 = elim x4 [ ]
 
 -- The subterm that is node u of the side.
 unfoldable pub subterm_at : Term → (u : ℕ) → Term

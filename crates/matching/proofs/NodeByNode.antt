@@ -405,3 +405,4 @@ begins {l = l} {s = s} h small k = record {
   where
     only : {x : ℕ} → OccursIn x (cons l nil) → Occurs x l
     only (first o) = o
+    only (later x5) = elim x5 [ ]
