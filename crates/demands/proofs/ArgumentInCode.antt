@@ -27,8 +27,8 @@ module _ (got : argument_hands_out.Call) (bytes record' : Bytes) (i : ℕ) (aske
   start_so = (
     got.ensured.1.0,
     got.ensured.1.1
-        ∙ ap (λ (x : an_argument.Asked). got.arguments.1.0.ptr.1 + (handed_out (argument x.0 x.1 x.2)).start) asked
-        ∙ ap (λ (x : Reply Part). got.arguments.1.0.ptr.1 + (handed_out x).start) so,
+        ∙ ap (λ (x : an_argument.Asked). got.arguments.1.0.ref_ptr.1 + (handed_out (argument x.0 x.1 x.2)).start) asked
+        ∙ ap (λ (x : Reply Part). got.arguments.1.0.ref_ptr.1 + (handed_out x).start) so,
   )
 
 -- What is handed over settles the part and its start.
@@ -49,7 +49,7 @@ settled_so got got' same = (
   λ behind starts. (
     got'.ensured.1.0,
     got'.ensured.1.1
-        ∙ subst (λ (h : argument_hands_out.Handed). start_by h ≡ h.1.1.0.ptr.1 + behind) same (sym got.ensured.1.1 ∙ starts.1),
+        ∙ subst (λ (h : argument_hands_out.Handed). start_by h ≡ h.1.1.0.ref_ptr.1 + behind) same (sym got.ensured.1.1 ∙ starts.1),
   ),
 )
 

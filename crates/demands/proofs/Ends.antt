@@ -3,7 +3,7 @@
 use Prim.Native.Nat.{ℕ, ◌+◌}
 use mathlib.Core.List.{List, []}
 use mathlib.Core.Path.{◌≡◌, refl, sym, ap, ◌∙◌}
-use denote.Ref.{MutBor, at_last}
+use denote.Ref.{Bor, MutBor, at_last}
 use lib.ListN.{length, replicate, length-replicate}
 use Rattle.reply.specs.Reply.{Refusal, Reply, given, refused, ◌>>=◌}
 use Rattle.reply.specs.Lent.{laid, length_of}
@@ -61,11 +61,11 @@ module _ {e : EntryPoint} (code : InCode e) (ends : Ends code) (asking : code.Ha
   asks_by question handed so = let (call, same) = ends handed in (call, asks call ∙ ap asking same ∙ so)
 
 -- Bytes behind a reference, and a buffer of a length.
-abbrev pub behind : Bytes → MutBor Bytes
-behind bytes = record { ref_ptr = (0, 0); ghost_name = 0; now = bytes }
+abbrev pub behind : Bytes → Bor Bytes
+behind bytes = record { ref_ptr = (0, 0); now = bytes }
 
 abbrev pub room_for : ℕ → MutBor Bytes
-room_for room = behind (replicate room 0)
+room_for room = record { ref_ptr = (0, 0); ghost_name = 0; now = replicate room 0 }
 
 -- An answer for every reply, of each enum.
 verdict_for : (numbers : List ℕ) (reply : Reply (Unit {0})) → ResultOrRefusal numbers reply → (r : RanksVerdict) × (ranks_meaning r ≡ reply)
@@ -259,7 +259,7 @@ argument_ends handed =
       record {
         lifetimes = handed.0;
         arguments = handed.1;
-        result = record { ref_ptr = (whole.ref_ptr.0, whole.ref_ptr.1 + part.start); ghost_name = whole.ghost_name; now = part_bytes part whole.now };
+        result = record { ref_ptr = (whole.ref_ptr.0, whole.ref_ptr.1 + part.start); now = part_bytes part whole.now };
         at_exit = (handed.1.0, (whole, (handed.1.1.1.0, tt)));
         ensured = (refl, (refl, refl));
       },

@@ -44,7 +44,7 @@ pub record ArgumentInCode (reply : InCode an_argument) (out : HandsOut) : Type 0
   pub refuses :
       (told : reply.Call) (got : out.Call) (bytes record' : Bytes) (i : ℕ) (r : Refusal) → reply.asked told ≡ (bytes, record', i) →
       out.asked got ≡ (bytes, record', i) → reply.answered told ≡ refused r → out.part got ≡ []
-  -- Of "two replies allowed by one contract": the same bytes at the same place. (A reference has a ghost name beside these, which no run sees.)
+  -- Of "two replies allowed by one contract": the same bytes at the same place.
   pub settled :
       (got got' : out.Call) → out.hands got ≡ out.hands got' →
       (out.part got ≡ out.part got') × ((behind : ℕ) → out.StartsAt got behind → out.StartsAt got' behind)

@@ -72,8 +72,9 @@ read_book_contract_of_c = record {
   ensures = read_book_reads.Post;
   lent = λ κs e. [];
   signature = read_book.signature;
-  routine = read_book_symbol.routine;
-  contract = λ w. read_book.spec w.𝓛 w.𝓜.mem w.𝓡.run;
+  code = read_book_symbol.code;
+  name = read_book_symbol.name;
+  contract = λ w. read_book.spec w.𝓛 w.𝓜.mem w.𝓡.returns;
 }
 
 abbrev pub write_block_contract_of_c : Contract
@@ -85,8 +86,9 @@ write_block_contract_of_c = record {
   ensures = write_block_reads.Post;
   lent = λ κs e. e.1.1.0.now;
   signature = write_block.signature;
-  routine = write_block_symbol.routine;
-  contract = λ w. write_block.spec w.𝓛 w.𝓜.mem w.𝓡.run;
+  code = write_block_symbol.code;
+  name = write_block_symbol.name;
+  contract = λ w. write_block.spec w.𝓛 w.𝓜.mem w.𝓡.returns;
 }
 
 abbrev pub check_ranks_contract_of_c : Contract
@@ -98,8 +100,9 @@ check_ranks_contract_of_c = record {
   ensures = check_ranks_reads.Post;
   lent = λ κs e. [];
   signature = check_ranks.signature;
-  routine = check_ranks_symbol.routine;
-  contract = λ w. check_ranks.spec w.𝓛 w.𝓜.mem w.𝓡.run;
+  code = check_ranks_symbol.code;
+  name = check_ranks_symbol.name;
+  contract = λ w. check_ranks.spec w.𝓛 w.𝓜.mem w.𝓡.returns;
 }
 
 abbrev pub ranks_from_answer_contract_of_c : Contract
@@ -111,8 +114,9 @@ ranks_from_answer_contract_of_c = record {
   ensures = ranks_from_answer_reads.Post;
   lent = λ κs e. e.1.1.0.now;
   signature = ranks_from_answer.signature;
-  routine = ranks_from_answer_symbol.routine;
-  contract = λ w. ranks_from_answer.spec w.𝓛 w.𝓜.mem w.𝓡.run;
+  code = ranks_from_answer_symbol.code;
+  name = ranks_from_answer_symbol.name;
+  contract = λ w. ranks_from_answer.spec w.𝓛 w.𝓜.mem w.𝓡.returns;
 }
 
 abbrev pub run_contract_of_c : Contract
@@ -124,8 +128,9 @@ run_contract_of_c = record {
   ensures = run_reads.Post;
   lent = λ κs e. e.1.1.1.1.0.now;
   signature = run.signature;
-  routine = run_symbol.routine;
-  contract = λ w. run.spec w.𝓛 w.𝓜.mem w.𝓡.run;
+  code = run_symbol.code;
+  name = run_symbol.name;
+  contract = λ w. run.spec w.𝓛 w.𝓜.mem w.𝓡.returns;
 }
 
 abbrev pub argument_contract_of_c : Contract
@@ -137,8 +142,9 @@ argument_contract_of_c = record {
   ensures = argument_reads.Post;
   lent = λ κs e. [];
   signature = argument.signature;
-  routine = argument_symbol.routine;
-  contract = λ w. argument.spec w.𝓛 w.𝓜.mem w.𝓡.run;
+  code = argument_symbol.code;
+  name = argument_symbol.name;
+  contract = λ w. argument.spec w.𝓛 w.𝓜.mem w.𝓡.returns;
 }
 
 -- The entry points by them.

@@ -49,8 +49,9 @@ read_book_contract = record {
   ensures = read_book_reads.Post;
   lent = λ κs e. [];
   signature = read_book.signature;
-  routine = read_book_symbol.routine;
-  contract = λ w. read_book.spec w.𝓛 w.𝓜.mem w.𝓡.run;
+  code = read_book_symbol.code;
+  name = read_book_symbol.name;
+  contract = λ w. read_book.spec w.𝓛 w.𝓜.mem w.𝓡.returns;
 }
 
 abbrev pub write_block_contract : Contract
@@ -62,8 +63,9 @@ write_block_contract = record {
   ensures = write_block_reads.Post;
   lent = λ κs e. e.1.1.0.now;
   signature = write_block.signature;
-  routine = write_block_symbol.routine;
-  contract = λ w. write_block.spec w.𝓛 w.𝓜.mem w.𝓡.run;
+  code = write_block_symbol.code;
+  name = write_block_symbol.name;
+  contract = λ w. write_block.spec w.𝓛 w.𝓜.mem w.𝓡.returns;
 }
 
 abbrev pub check_ranks_contract : Contract
@@ -75,8 +77,9 @@ check_ranks_contract = record {
   ensures = check_ranks_reads.Post;
   lent = λ κs e. [];
   signature = check_ranks.signature;
-  routine = check_ranks_symbol.routine;
-  contract = λ w. check_ranks.spec w.𝓛 w.𝓜.mem w.𝓡.run;
+  code = check_ranks_symbol.code;
+  name = check_ranks_symbol.name;
+  contract = λ w. check_ranks.spec w.𝓛 w.𝓜.mem w.𝓡.returns;
 }
 
 abbrev pub ranks_from_answer_contract : Contract
@@ -88,8 +91,9 @@ ranks_from_answer_contract = record {
   ensures = ranks_from_answer_reads.Post;
   lent = λ κs e. e.1.1.0.now;
   signature = ranks_from_answer.signature;
-  routine = ranks_from_answer_symbol.routine;
-  contract = λ w. ranks_from_answer.spec w.𝓛 w.𝓜.mem w.𝓡.run;
+  code = ranks_from_answer_symbol.code;
+  name = ranks_from_answer_symbol.name;
+  contract = λ w. ranks_from_answer.spec w.𝓛 w.𝓜.mem w.𝓡.returns;
 }
 
 abbrev pub run_contract : Contract
@@ -101,8 +105,9 @@ run_contract = record {
   ensures = run_reads.Post;
   lent = λ κs e. e.1.1.1.1.0.now;
   signature = run.signature;
-  routine = run_symbol.routine;
-  contract = λ w. run.spec w.𝓛 w.𝓜.mem w.𝓡.run;
+  code = run_symbol.code;
+  name = run_symbol.name;
+  contract = λ w. run.spec w.𝓛 w.𝓜.mem w.𝓡.returns;
 }
 
 abbrev pub argument_reply_contract : Contract
@@ -114,8 +119,9 @@ argument_reply_contract = record {
   ensures = argument_reply_reads.Post;
   lent = λ κs e. [];
   signature = argument_reply.signature;
-  routine = argument_reply_symbol.routine;
-  contract = λ w. argument_reply.spec w.𝓛 w.𝓜.mem w.𝓡.run;
+  code = argument_reply_symbol.code;
+  name = argument_reply_symbol.name;
+  contract = λ w. argument_reply.spec w.𝓛 w.𝓜.mem w.𝓡.returns;
 }
 
 abbrev pub argument_contract : Contract
@@ -127,8 +133,9 @@ argument_contract = record {
   ensures = argument_reads.Post;
   lent = λ κs e. [];
   signature = argument.signature;
-  routine = argument_symbol.routine;
-  contract = λ w. argument.spec w.𝓛 w.𝓜.mem w.𝓡.run;
+  code = argument_symbol.code;
+  name = argument_symbol.name;
+  contract = λ w. argument.spec w.𝓛 w.𝓜.mem w.𝓡.returns;
 }
 
 -- The entry points by them.
@@ -197,4 +204,4 @@ argument_hands_out =
     handing_out argument_contract
     (λ call. (call.arguments.0.now, call.arguments.1.0.now, call.arguments.1.1.0))
     (λ call. call.result.now)
-    (λ call behind. (call.result.ptr.0 ≡ call.arguments.1.0.ptr.0) × (call.result.ptr.1 ≡ call.arguments.1.0.ptr.1 + behind))
+    (λ call behind. (call.result.ref_ptr.0 ≡ call.arguments.1.0.ref_ptr.0) × (call.result.ref_ptr.1 ≡ call.arguments.1.0.ref_ptr.1 + behind))

@@ -1,7 +1,8 @@
 -- A function of the code by its generated contract, in the toolchain's words: what a caller can hand over, the calls that the contract allows, and
 -- that two replies are equal.
 use Rattle.std.specs.Prelude.{ℕ, List, ◌≡◌}
-use prog.Routine.{Routine}
+use mir.Syntax.{Callee}
+use prog.Wired.{Code}
 use contract.Lifetimes.{Lfts}
 use denote.Signature.{Signature}
 use denote.Triple.Clauses.{AtExit}
@@ -10,8 +11,9 @@ use borrow.Fn.Kinds.{ParamKind, ResultKind, Dens, res_t, In, Out, ended_of}
 use borrow.Fn.World.{World}
 use Rattle.demands.specs.EntryPoints.{Bytes}
 
--- `requires` and `ensures` are the contract's clauses, `lent` is what the lent buffer holds at exit (nothing where none is lent), `routine` is what
--- the function's code does on the toolchain's machine, and `contract` the same clauses as an assertion about it.
+-- `requires` and `ensures` are the contract's clauses, `lent` is what the lent buffer holds at exit (nothing where none is lent), `code` is the
+-- function's code for the toolchain's machine, with that of all that it calls, `name` the name by which it is called there, and `contract` the same
+-- clauses as an assertion about such a call.
 pub record Contract : Type 3 where
   pub lifetimes : ℕ
   pub parameters : List (ParamKind lifetimes)
@@ -20,7 +22,8 @@ pub record Contract : Type 3 where
   pub ensures : Out lifetimes parameters result
   pub lent : (κs : Lfts lifetimes) → AtExit (ended_of lifetimes parameters result) κs → Bytes
   pub signature : Signature
-  pub routine : Routine
+  pub code : Code
+  pub name : Callee
   pub contract : (w : World) → Spec w.𝓤 signature
 
 -- All that a caller can hand over.

@@ -1,6 +1,11 @@
 -- The entry points return: each routine meets its contract, which the toolchain's adequacy carries to the machine. Assumes nothing.
-use prog.Routine.{anyName}
-use contract.Running.{alone}
+use prog.Routine.{any_callee}
+use mir.Syntax.{Symbol}
+use mathlib.Core.Bool.{true}
+use prog.Linked.{Entry}
+use prog.LinkedThreads.{HasT, has-wired_t, tie_t, tie_t-follows, tie_t-threads}
+use prog.Wired.{Wired}
+use contract.Running.{alone, strict}
 use denote.Triple.Spec.{Meets}
 use denote.Triple.Adequate.{adequate}
 use borrow.Fn.World.{World}
@@ -41,32 +46,43 @@ use Rattle.demands.specs.ForC.{
 use Rattle.demands.proofs.Each.{no_more, also, each→}
 use Rattle.returning.specs.Returning.{Returns, EndsInCode}
 
+-- A model in which the process may not stop: no contract here lets it.
+abbrev strictly : World → World
+strictly w = record { M = w.M; 𝓤 = w.𝓤; 𝓛 = w.𝓛; 𝓜 = w.𝓜; 𝓡 = strict w.𝓤 w.𝓛.H w.𝓜 w.𝓡 }
+
 returns :
-    (c : Contract) → ((w : World) → Meets w.𝓛 c.signature (w.𝓡.run c.routine) (c.contract w)) → Returns c
+    (c : Contract) →
+    ((w : World) → Wired w.𝓡.env c.code → Meets w.𝓛 c.signature ((strictly w).𝓡.run (w.𝓡.env c.name)) (c.contract w)) →
+    Returns c
 unfolding alone
-returns c met w handed memory frame holds =
-    adequate w.𝓤 w.𝓛.H w.𝓜 (alone w.𝓤 w.𝓛.H w.𝓜 w.𝓡 c.routine) anyName _ (met w) handed memory frame holds
+returns c met w wired handed memory frame holds =
+    adequate w.𝓤 w.𝓛.H w.𝓜 (alone w.𝓤 w.𝓛.H w.𝓜 (strictly w).𝓡 (w.𝓡.env c.name)) (λ s allowed. allowed, tt) any_callee _ (met w wired) handed memory
+    frame holds
+
+-- A program is such a model, if it has each symbol of the function's code with its own code: the toolchain's machine on it is wired.
+pub wired_in_program : (look : Symbol → Entry) (c : Contract) → HasT look true c.code → Wired (tie_t look) c.code
+wired_in_program look c has = has-wired_t look (tie_t look) (tie_t-follows look) (tie_t-threads look) c.code has
 
 pub ends_in_code : EndsInCode
 unfolding functions functions_of_c
 ends_in_code = record {
   each = λ f m.
       each→ (λ (g : Function). Returns g.contract)
-      (also (returns read_book_contract (λ w. read_book.met w.𝓤 w.𝓛 w.𝓜 w.𝓡))
-      (also (returns write_block_contract (λ w. write_block.met w.𝓤 w.𝓛 w.𝓜 w.𝓡))
-      (also (returns check_ranks_contract (λ w. check_ranks.met w.𝓤 w.𝓛 w.𝓜 w.𝓡))
-      (also (returns ranks_from_answer_contract (λ w. ranks_from_answer.met w.𝓤 w.𝓛 w.𝓜 w.𝓡))
-      (also (returns run_contract (λ w. run.met w.𝓤 w.𝓛 w.𝓜 w.𝓡))
-      (also (returns argument_reply_contract (λ w. argument_reply.met w.𝓤 w.𝓛 w.𝓜 w.𝓡)) no_more))))))
+      (also (returns read_book_contract (λ w. read_book.met w.𝓤 w.𝓛 w.𝓜 (strictly w).𝓡))
+      (also (returns write_block_contract (λ w. write_block.met w.𝓤 w.𝓛 w.𝓜 (strictly w).𝓡))
+      (also (returns check_ranks_contract (λ w. check_ranks.met w.𝓤 w.𝓛 w.𝓜 (strictly w).𝓡))
+      (also (returns ranks_from_answer_contract (λ w. ranks_from_answer.met w.𝓤 w.𝓛 w.𝓜 (strictly w).𝓡))
+      (also (returns run_contract (λ w. run.met w.𝓤 w.𝓛 w.𝓜 (strictly w).𝓡))
+      (also (returns argument_reply_contract (λ w. argument_reply.met w.𝓤 w.𝓛 w.𝓜 (strictly w).𝓡)) no_more))))))
       m;
-  argument = returns argument_contract (λ w. argument.met w.𝓤 w.𝓛 w.𝓜 w.𝓡);
+  argument = returns argument_contract (λ w. argument.met w.𝓤 w.𝓛 w.𝓜 (strictly w).𝓡);
   of_c = λ f m.
       each→ (λ (g : Function). Returns g.contract)
-      (also (returns read_book_contract_of_c (λ w. c_read_book.met w.𝓤 w.𝓛 w.𝓜 w.𝓡))
-      (also (returns write_block_contract_of_c (λ w. c_write_block.met w.𝓤 w.𝓛 w.𝓜 w.𝓡))
-      (also (returns check_ranks_contract_of_c (λ w. c_check_ranks.met w.𝓤 w.𝓛 w.𝓜 w.𝓡))
-      (also (returns ranks_from_answer_contract_of_c (λ w. c_ranks_from_answer.met w.𝓤 w.𝓛 w.𝓜 w.𝓡))
-      (also (returns run_contract_of_c (λ w. c_run.met w.𝓤 w.𝓛 w.𝓜 w.𝓡))
-      (also (returns argument_contract_of_c (λ w. c_argument.met w.𝓤 w.𝓛 w.𝓜 w.𝓡)) no_more))))))
+      (also (returns read_book_contract_of_c (λ w. c_read_book.met w.𝓤 w.𝓛 w.𝓜 (strictly w).𝓡))
+      (also (returns write_block_contract_of_c (λ w. c_write_block.met w.𝓤 w.𝓛 w.𝓜 (strictly w).𝓡))
+      (also (returns check_ranks_contract_of_c (λ w. c_check_ranks.met w.𝓤 w.𝓛 w.𝓜 (strictly w).𝓡))
+      (also (returns ranks_from_answer_contract_of_c (λ w. c_ranks_from_answer.met w.𝓤 w.𝓛 w.𝓜 (strictly w).𝓡))
+      (also (returns run_contract_of_c (λ w. c_run.met w.𝓤 w.𝓛 w.𝓜 (strictly w).𝓡))
+      (also (returns argument_contract_of_c (λ w. c_argument.met w.𝓤 w.𝓛 w.𝓜 (strictly w).𝓡)) no_more))))))
       m;
 }

@@ -1,10 +1,12 @@
 -- "ends", of the running code: called on whatever is handed over, the routine of each entry point returns. Said of the toolchain's machine, in its
--- words; a routine is what a function's compiled code does there, its callees included.
+-- words; a routine is what a function's name does there, where each name of its code and of its callees' code stands for that code (`Wired`).
 use Rattle.std.specs.Prelude.{ℕ, ◌≡◌}
-use mathlib.Core.List.{List, Memᴰ}
+use mathlib.Core.List.{Memᴰ}
 use base.Logic.{sep}
 use mir.Val.{Val}
 use prog.Memory.{Memory}
+use prog.Routine.{step}
+use prog.Wired.{Wired}
 use prog.Machine.{done}
 use contract.Adequate.{Satisfies}
 use denote.Triple.Statement as Statement
@@ -28,13 +30,14 @@ module _ (c : Contract) (w : World) where
   ReturnsIn =
       (handed : triple.Ghost) (memory : Memory) (frame : Pr w) → holds memory (triple.pre handed) frame →
       ∥ ((fuel : ℕ) × (value : Val) × (left : Memory)
-      × (c.routine.step fuel (triple.args handed) memory ≡ done (value, left))
+      × (step (w.𝓡.env c.name) fuel (triple.args handed) memory ≡ done (value, left))
       × holds left (triple.post handed value) frame) ∥₁
 
--- In every model of the machine: from every memory in which the arguments stand as the parameters' types say, beside whatever else is owned
--- (`frame`), the routine is done with enough fuel, its value keeps the contract's promise in the memory that it leaves, and the rest is as it was.
+-- In every model of the machine that has the function's code: from every memory in which the arguments stand as the parameters' types say, beside
+-- whatever else is owned (`frame`), the routine is done with enough fuel, its value keeps the contract's promise in the memory that it leaves, and
+-- the rest is as it was.
 abbrev pub Returns : Contract → Type 2
-Returns c = (w : World) → ReturnsIn c w
+Returns c = (w : World) → Wired w.𝓡.env c.code → ReturnsIn c w
 
 -- "Every entry point .. ends": of Rattle, the second function of the argument question, and of C.
 pub record EndsInCode : Type 3 where
