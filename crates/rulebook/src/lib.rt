@@ -1,4 +1,6 @@
 // The boundary to C: a thin function for each entry point. include/rulebook.h declares them.
+#![tactic(auto)]
+
 mod replies;
 
 ghost use Rattle.std.specs.Prelude.{◌≡◌, length};
@@ -23,8 +25,7 @@ use replies::{outcome_number, refuse};
 use running::RunReply;
 
 // Reads a book.
-#[unsafe(no_mangle)]
-pub extern "C" fn rulebook_read_book(book: &[u8]) -> BookReply
+pub fn rulebook_read_book(book: &[u8]) -> BookReply
     ensures { result ≡ book_reply (read_book book.now) }
 {
     let read = book::read_book(book);
@@ -50,8 +51,7 @@ pub extern "C" fn rulebook_read_book(book: &[u8]) -> BookReply
 }
 
 // Whether the ranks, one byte a symbol, make every rule decrease.
-#[unsafe(no_mangle)]
-pub extern "C" fn rulebook_check_ranks(book: &[u8], ranks: &[u8]) -> Verdict
+pub fn rulebook_check_ranks(book: &[u8], ranks: &[u8]) -> Verdict
     ensures { result ≡ verdict_reply (check_ranks book.now ranks.now) }
 {
     let checked = clearing::check_ranks(book, ranks);
@@ -65,8 +65,7 @@ pub extern "C" fn rulebook_check_ranks(book: &[u8], ranks: &[u8]) -> Verdict
 }
 
 // Writes one block of the clause file.
-#[unsafe(no_mangle)]
-pub extern "C" fn rulebook_write_block(book: &[u8], number: u64, out: &mut [u8]) -> WrittenReply
+pub fn rulebook_write_block(book: &[u8], number: u64, out: &mut [u8]) -> WrittenReply
     ensures replies { result ≡ written_reply (length_of (block book.now number (length out.old))) }
     ensures lays { out.new ≡ laid (block book.now number (length out.old)) out.old }
 {
@@ -89,12 +88,7 @@ pub extern "C" fn rulebook_write_block(book: &[u8], number: u64, out: &mut [u8])
 }
 
 // Reads a solver's answer and writes its ranks, if they make every rule decrease.
-#[unsafe(no_mangle)]
-pub extern "C" fn rulebook_ranks_from_answer(
-    book: &[u8],
-    answer: &[u8],
-    out: &mut [u8],
-) -> WrittenReply
+pub fn rulebook_ranks_from_answer(book: &[u8], answer: &[u8], out: &mut [u8]) -> WrittenReply
     ensures replies { result ≡ written_reply (length_of (ranks_from_answer book.now answer.now (length out.old))) }
     ensures lays { out.new ≡ laid (ranks_from_answer book.now answer.now (length out.old)) out.old }
 {
@@ -117,8 +111,7 @@ pub extern "C" fn rulebook_ranks_from_answer(
 }
 
 // Runs a record under a book that the ranks clear, and writes the term reached.
-#[unsafe(no_mangle)]
-pub extern "C" fn rulebook_run(
+pub fn rulebook_run(
     book: &[u8],
     ranks: &[u8],
     record: &[u8],
@@ -157,8 +150,7 @@ pub extern "C" fn rulebook_run(
 }
 
 // Where argument `number`, from 0, of the record's root stands in the record.
-#[unsafe(no_mangle)]
-pub extern "C" fn rulebook_argument(book: &[u8], record: &[u8], number: u64) -> PartReply
+pub fn rulebook_argument(book: &[u8], record: &[u8], number: u64) -> PartReply
     ensures { result ≡ part_reply (argument book.now «record».now number) }
 {
     let found = asking::argument_reply(book, record, number);
