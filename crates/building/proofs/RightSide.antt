@@ -1,19 +1,18 @@
 -- A right side under a replacement, node by node in prefix order: the bytes that are left to lay begin with the symbol's two bytes, or
 -- with the bytes of the term that replaces the variable. Assumes nothing.
 use Prim.Native.Nat.{ℕ, zero, suc, ◌+◌, ◌*◌, ◌-◌, ◌<◌, ◌≤◌}
-use mathlib.Core.List.{List, [], ◌∷◌, ◌++◌, append_assoc, append-nil}
-use mathlib.Core.Logic.{◌↔◌}
+use mathlib.Core.List.{List, [], ◌∷◌, ◌++◌, append-nil}
 use mathlib.Core.Path.{◌≡◌, refl, sym, ap, ap₂, subst, ◌∙◌}
 use native.Mathlib.Omega.{arith}
 use lib.ListN.{length, get_or, length-append}
-use Rattle.term.specs.Term.{Term, Args, var, app, nil, cons, size, sizes, count}
+use Rattle.term.specs.Term.{Term, Args, var, app, nil, cons, size, sizes}
 use Rattle.term.specs.Root.{arguments}
 use Rattle.term.specs.Replacement.{Replacement, replace, replace_all, Occurs, OccursIn, it, under, first, later}
 use Rattle.term.specs.Prefix.{prefix, prefixes}
 use Rattle.term.specs.At.{At, ArgsAt, none_at, and_at}
-use Rattle.term.proofs.At.{FirstAt, SymbolRoot, VariableRoot, joined, at_end_lem, at_within, args_first, args_none, args_long, root_passed, symbol_root, variable_root}
+use Rattle.term.proofs.At.{FirstAt, joined, at_end_lem, at_within, args_first, args_none, args_long, root_passed, symbol_root, variable_root}
 use Rattle.term.proofs.PrefixAt.{prefix_length}
-use Rattle.building.specs.Right.{start_of, TermAt}
+use Rattle.building.specs.Right.{TermAt}
 use Rattle.building.specs.Right.{Held}
 use Rattle.building.specs.declared.Match.{Match}
 use Rattle.steps.proofs.Joined.{prefixes_joined, no_symbol, replace_all_joined, occurs_passed}

@@ -1,4 +1,6 @@
 // The next term, built in a working buffer: a right side under a match is laid down between the bytes before the place and those behind it.
+#![tactic(auto)]
+
 ghost use Rattle.std.specs.Prelude.{◌≡◌, ◌≤◌, length};
 ghost use Rattle.term.specs.Prefix.{prefix};
 ghost use Rattle.building.specs.Right.{RightAt, UnderMatch, FitsBehind, LaidBehind, Within, Built, BuiltFits};
@@ -7,7 +9,7 @@ use text::wide;
 
 // "A table of 16 places, one for each variable, holds the match": where each variable's term starts in the bytes, and which
 // variables are bound.
-#[derive(Drop)]
+#[derive(Clone, Copy, Drop)]
 pub struct Match {
     pub fits: bool,
     pub starts: [usize; 16],

@@ -1,6 +1,5 @@
 -- Two replies that the contract of `read_item` allows are equal, said of the contract itself: an item can be told from what it means.
 -- Assumes nothing.
-use Prim.Native.Nat.{ℕ}
 use mathlib.Core.Path.{◌≡◌, refl, sym, ap, ◌∙◌}
 use contract.Lifetimes.{Lfts}
 use borrow.Fn.Kinds.{Dens, ended_of}

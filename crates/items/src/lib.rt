@@ -1,4 +1,6 @@
 // The items of an answer's v lines. The definitions stand in specs/.
+#![tactic(auto)]
+
 ghost use Rattle.std.specs.Prelude.{◌≡◌};
 ghost use Rattle.clauses.specs.Item.{item};
 ghost use Rattle.items.specs.Meaning.{item_meaning};

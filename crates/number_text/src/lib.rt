@@ -1,5 +1,7 @@
 // Numbers behind words, as text. Each function lays its text onto the start of the buffer that is lent to it, as far as it fits, and
 // answers how many bytes it laid.
+#![tactic(auto)]
+
 ghost use Rattle.text.specs.Laying.{Lays};
 ghost use Rattle.number_text.specs.Numbers.{counted, counted_line};
 

@@ -1,4 +1,6 @@
 // "Numbering of variables, from 1": the numbers that the book's symbols alone settle.
+#![tactic(auto)]
+
 ghost use Rattle.std.specs.Prelude.{◌-◌, ◌≤◌, ◌≡◌, length};
 ghost use mathlib.Core.List.{flatten};
 ghost use Rattle.term.specs.Tables.{rank_bits};
@@ -35,6 +37,7 @@ pub fn larger_number(n: usize, k: usize, f: usize, g: usize, j: usize) -> usize
 }
 
 // How many clauses the blocks of the n(n − 1) pairs have: 6k − 3 each.
+#[tactic(auto, using(crate::proofs::Counted::no_clauses))]
 pub fn pairs_clauses(n: usize) -> usize
     requires { n ≤ 16 }
     ensures few { result ≤ 5376 }

@@ -9,7 +9,7 @@ use borrow.Author.Tests.{ne_eqb}
 use lib.Dec.{T, eqb, ltb, eqb→eq, ltb→lt, le→leb, lt→ltb}
 use lib.ListN.{length, get_or, length-append}
 use lib.Seq.{take-append_seam}
-use Rattle.reply.specs.Reply.{given, told_as, ◌>>◌, ◌>>=◌}
+use Rattle.reply.specs.Reply.{given, told_as, ◌>>◌}
 use Rattle.reply.proofs.Given.{given_bind, given_unless}
 use Rattle.reply.proofs.Tests.{and_left, and_right}
 use Rattle.term.specs.Tables.{body_length, body_lengths}

@@ -1,5 +1,5 @@
 -- A record to be run: its bytes, and reading it, its nodes from the left, with the cause and the byte of the first fault.
-use Rattle.std.specs.Prelude.{ℕ, zero, suc, ◌+◌, pred, Bool, true, false, List, [], ◌∷◌, ◌++◌, leb, ltb, eqb, length, get_or, drop}
+use Rattle.std.specs.Prelude.{ℕ, zero, suc, ◌+◌, pred, true, false, List, [], ◌∷◌, ◌++◌, leb, ltb, eqb, length, get_or, drop}
 use Rattle.reply.specs.Reply.{Refusal, Attempt, Reply, given, refused, unless, told_as, ◌>>◌, ◌>>=◌}
 use Rattle.reply.specs.Refusals.{numbered}
 use Rattle.reply.specs.declared.Refusal.{Refusal as Named}

@@ -1,4 +1,6 @@
 // Reading a record to be run: one term and its end. The definitions stand in specs/.
+#![tactic(auto)]
+
 ghost use Rattle.std.specs.Prelude.{◌≡◌, min, length, take, drop};
 ghost use Rattle.record.specs.Record.{fault_refusal, record_node, record_end, one_term, record_term};
 ghost use Rattle.record.specs.Meaning.{record_meaning, record_verdict, term_found, node_found, end_found};
@@ -38,6 +40,7 @@ enum NodeFound {
 }
 
 // The refusal of a record with this fault.
+#[tactic(auto, unfolding(crate::specs::Record::fault_refusal))]
 pub fn record_refusal(fault: RecordFault) -> Refusal
     ensures { result ≡ fault_refusal fault }
 {
@@ -58,6 +61,7 @@ fn in_table(symbols: usize) -> usize
 }
 
 // The node at this place, behind `nodes` others: "kind 3 nodes only .., at most 256 nodes", of a declared symbol.
+#[tactic(auto, using(crate::proofs::Steps::no_node, crate::proofs::Steps::wrong_kind, crate::proofs::Steps::node_cut, crate::proofs::Steps::not_declared, crate::proofs::Steps::too_many, crate::proofs::Steps::node_given), unfolding(crate::specs::Meaning::node_found))]
 fn node_at(bytes: &[u8], at: usize, nodes: usize, symbols: usize) -> NodeFound
     ensures { result ≡ node_found (record_node symbols (length bytes.now) nodes at (drop at bytes.now)) }
 {

@@ -1,12 +1,12 @@
 -- The parts behind the arguments of one symbol, argument by argument; and C's number along a side, which is linear in the node's.
 -- Assumes nothing.
 use Prim.Native.Nat.{ℕ, ◌+◌, ◌-◌, ◌*◌, ◌≤◌, ◌<◌}
-use mathlib.Core.Bool.{Bool, true, false}
+use mathlib.Core.Bool.{true, false}
 use mathlib.Core.List.{List, [], ◌∷◌, ◌++◌, map}
 use mathlib.Core.Path.{◌≡◌, refl, sym, ap, ap₂, subst, ◌∙◌}
-use native.Mathlib.Nat.{add-mul, mul_assoc, mul_comm}
+use native.Mathlib.Nat.{mul_assoc, mul_comm}
 use native.Mathlib.Omega.{arith}
-use Rattle.term.specs.Term.{Term, Args, nil, cons, size, same}
+use Rattle.term.specs.Term.{Term, Args, cons, size, same}
 use Rattle.term.specs.At.{At, ArgsAt}
 use Rattle.term.proofs.At.{args_none}
 use Rattle.clauses.specs.Numbering.{C}

@@ -2,12 +2,12 @@
 use Prim.Native.Nat.{ℕ, ◌+◌, ◌-◌, ◌*◌, ◌<◌}
 use mathlib.Core.Bool.{Bool, true, false, ◌||◌}
 use mathlib.Core.List.{List}
-use mathlib.Core.Path.{◌≡◌, refl, sym, ap, subst, ◌∙◌}
-use Rattle.term.specs.Term.{Term, Args, cons, size, same}
+use mathlib.Core.Path.{◌≡◌, sym, ap, subst, ◌∙◌}
+use Rattle.term.specs.Term.{Term, Args, size, same}
 use Rattle.term.specs.At.{At, ArgsAt}
 use Rattle.term.proofs.At.{args_none}
 use Rattle.order.specs.Test.{some_arg}
-use Rattle.rule_blocks.proofs.Walk.{FirstNode, first_node}
+use Rattle.rule_blocks.proofs.Walk.{first_node}
 
 module _ {bytes arities : List ℕ} (start a many : ℕ) (t : Term) {ss : Args} {d : ℕ} (stand : ArgsAt bytes arities many (start + 2 * a) ss d) where
   pub identical_none : many ≡ 0 → false ≡ some_arg (λ s. same s t) ss

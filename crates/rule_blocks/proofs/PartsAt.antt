@@ -1,13 +1,12 @@
 -- The parts of D and of C at two nodes, by the roots that stand there. Assumes nothing.
-use Prim.Native.Nat.{ℕ, suc, ◌+◌, ◌*◌, ◌≤◌, ◌<◌}
-use mathlib.Core.Bool.{Bool, true, false}
+use Prim.Native.Nat.{ℕ, suc, ◌+◌, ◌*◌, ◌<◌}
 use mathlib.Core.List.{List, [], ◌∷◌, ◌++◌, map}
 use mathlib.Core.Path.{◌≡◌, refl, sym, ap, ap₂, subst, ◌∙◌}
 use native.Mathlib.Numerals.{add-one}
 use native.Mathlib.Omega.{arith}
 use lib.ListN.{length, get_or}
 use borrow.Author.Tests.{eq-eqb, ne_eqb}
-use Rattle.term.specs.Term.{Term, Args, var, app, size, sizes, count, same}
+use Rattle.term.specs.Term.{Term, var, app, size, sizes, count, same}
 use Rattle.term.specs.Root.{arguments}
 use Rattle.term.specs.At.{At, ArgsAt, variable_at, symbol_at}
 use Rattle.term.proofs.At.{at_arguments, args_count, symbol_root, variable_root}

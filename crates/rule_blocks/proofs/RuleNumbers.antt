@@ -1,18 +1,17 @@
 -- A rule's block by its number, at the places of the nodes: number 0 is (C of 0,0), and number 1 + u|r| + v is that of the nodes u and
 -- v. Assumes nothing.
-use Prim.Native.Nat.{ℕ, zero, suc, ◌+◌, ◌-◌, ◌*◌, ◌/◌, ◌%◌, ◌≤◌, ◌<◌}
+use Prim.Native.Nat.{ℕ, suc, ◌+◌, ◌-◌, ◌*◌, ◌/◌, ◌%◌, ◌≤◌, ◌<◌}
 use mathlib.Core.List.{List, [], ◌∷◌, flat_map, append-nil}
 use mathlib.Core.Option.{some}
-use mathlib.Core.Path.{◌≡◌, refl, sym, ap, ap₂, subst, ◌∙◌}
+use mathlib.Core.Path.{◌≡◌, sym, ap, ap₂, ◌∙◌}
 use native.Mathlib.Nat.{div-add-mod', div-lt_iff_lt-mul, mod-lt}
 use native.Mathlib.Omega.{arith}
 use lib.ListN.{length, get_or, get_elem?}
 use Rattle.term.specs.Term.{Term, size, count}
 use Rattle.term.specs.Root.{arguments}
-use Rattle.term.specs.At.{At}
 use Rattle.book.specs.Book.{Rule}
-use Rattle.clauses.specs.Cnf.{is, Clause}
-use Rattle.clauses.specs.Blocks.{Numbered, subterms, CAt, node_block, rule_blocks}
+use Rattle.clauses.specs.Cnf.{is}
+use Rattle.clauses.specs.Blocks.{subterms, CAt, rule_blocks}
 use Rattle.clauses.specs.File.{clause_bytes}
 use Rattle.rule_blocks.specs.Nodes.{setting_of, nodes_block, NodeAt, Nodes}
 use Rattle.rule_blocks.specs.Rules.{SmallSide, RuleStands}

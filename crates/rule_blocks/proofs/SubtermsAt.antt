@@ -1,12 +1,12 @@
 -- Node u of a side that stands at a is a subterm that stands at a + 2u, and number u of the side's subterms. Assumes nothing.
 use Prim.Native.Nat.{ℕ, zero, suc, ◌+◌, ◌-◌, ◌*◌, ◌≤◌, ◌<◌}
 use mathlib.Core.List.{List, [], ◌∷◌, ◌++◌}
-use mathlib.Core.Option.{Option, none, some}
-use mathlib.Core.Path.{◌≡◌, refl, sym, ap, subst, ◌∙◌}
+use mathlib.Core.Option.{some}
+use mathlib.Core.Path.{◌≡◌, sym, ap, subst, ◌∙◌}
 use native.Mathlib.Decide.{dec_lt}
 use native.Mathlib.Omega.{arith}
 use lib.ListN.{length, get_elem?}
-use Rattle.term.specs.Term.{Term, Args, var, app, nil, cons, size, sizes}
+use Rattle.term.specs.Term.{Term, Args, size, sizes}
 use Rattle.term.specs.At.{At, ArgsAt, variable_at, symbol_at, none_at, and_at}
 use Rattle.term.proofs.At.{at_end_lem}
 use Rattle.clauses.specs.Blocks.{Numbered, subterms, subterms_of}

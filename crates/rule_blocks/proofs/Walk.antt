@@ -4,7 +4,7 @@ use Prim.Native.Nat.{ℕ, ◌+◌, ◌-◌, ◌*◌, ◌≤◌, ◌<◌}
 use mathlib.Core.List.{List, [], ◌∷◌, ◌++◌, map, append_assoc, append-nil}
 use mathlib.Core.Path.{◌≡◌, refl, sym, ap, subst, ◌∙◌}
 use native.Mathlib.Omega.{arith}
-use Rattle.term.specs.Term.{Term, Args, nil, cons, size, sizes}
+use Rattle.term.specs.Term.{Term, Args, cons, size, sizes}
 use Rattle.term.specs.At.{At, ArgsAt, Standing}
 use Rattle.term.proofs.At.{at_end_lem, args_first, args_none, args_unique, FirstAt}
 use Rattle.clauses.specs.Blocks.{Numbered, numbered_args}

@@ -5,6 +5,7 @@ ghost use Rattle.clause_bytes.specs.Meaning.{parts_in};
 use clause_bytes::parts::Parts;
 
 // None.
+#[tactic(auto, unfolding(clause_bytes::specs::Meaning::parts_in))]
 pub fn no_parts() -> Parts
     ensures { (result.many ≡ 0) × (parts_in result ≡ []) }
 {

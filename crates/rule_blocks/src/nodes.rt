@@ -20,6 +20,7 @@ use numbering::larger_number;
 use text::wide;
 
 // "C = base + 2(u|r| + v) + 1"
+#[tactic(auto, unfolding(crate::specs::Nodes::setting_of, clauses::specs::Blocks::CAt, clauses::specs::Numbering::C))]
 pub fn c_number(placed: PlacedRule, u: usize, v: usize) -> usize
     requires { WithinMaximum placed × (u ≤ 10) × (v ≤ 10) }
     ensures { result ≡ CAt (setting_of placed) u v }

@@ -1,10 +1,9 @@
 -- Cases of the tables and of prefix order, computed. Assumes nothing.
-use Prim.Native.Nat.{ℕ}
 use mathlib.Core.Path.{◌≡◌, refl}
-use mathlib.Core.List.{List, [], ◌∷◌, map}
+use mathlib.Core.List.{[], ◌∷◌, map}
 use Rattle.term.specs.Tables.{body_length}
-use Rattle.term.specs.Term.{Term, Args, var, app, nil, cons}
-use Rattle.term.specs.Prefix.{Node, symbolic, variable, prefix, tree}
+use Rattle.term.specs.Term.{var, app, nil, cons}
+use Rattle.term.specs.Prefix.{symbolic, variable, prefix, tree}
 use Rattle.term.specs.Computing.{computing}
 
 body_lengths_lem : map body_length (1 ∷ 2 ∷ 3 ∷ 4 ∷ 5 ∷ 6 ∷ 255 ∷ []) ≡ 1 ∷ 0 ∷ 1 ∷ 1 ∷ 0 ∷ 0 ∷ 0 ∷ []

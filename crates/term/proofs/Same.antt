@@ -1,5 +1,5 @@
 -- The test `same` decides identity of terms. Assumes nothing.
-use mathlib.Core.Path.{◌≡◌, refl, sym, ap, ap₂, subst}
+use mathlib.Core.Path.{◌≡◌, refl, ap, ap₂, subst}
 use lib.Dec.{T, eqb, eqb→eq, eqb_refl}
 use Rattle.reply.proofs.Tests.{and_left, and_right, and_both}
 use Rattle.term.specs.Term.{Term, Args, var, app, nil, cons, same, sames}

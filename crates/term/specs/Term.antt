@@ -1,5 +1,5 @@
 -- Terms: a variable, or a symbol with its arguments.
-use Rattle.std.specs.Prelude.{ℕ, zero, suc, ◌+◌, Bool, true, false, ◌&&◌, List, [], ◌∷◌, eqb, ltb, length, get_or}
+use Rattle.std.specs.Prelude.{ℕ, suc, ◌+◌, Bool, true, false, ◌&&◌, List, [], ◌∷◌, eqb, ltb, length, get_or}
 
 -- Argument lists are a type of their own, beside lists: a constructor that holds a list of terms would have the type inside another.
 mutual

@@ -1,4 +1,6 @@
 // Terms as places in bytes. The definitions stand in specs/.
+#![tactic(auto)]
+
 ghost use Rattle.std.specs.Prelude.{◌≡◌, ℕ, length};
 ghost use Rattle.reply.specs.Lent.{overlaid};
 ghost use Rattle.term.specs.Tables.{body_length, rank_bits};
@@ -24,6 +26,7 @@ pub fn body_length(kind: u8) -> usize
 }
 
 // k of the clause file for so many symbols: the least number with 2^k at least that many, 0 for none or one; 0 above 16 symbols.
+#[tactic(auto, using(crate::proofs::Tables::rank_bits_past), unfolding(crate::specs::Tables::rank_bits, crate::specs::Tables::rank_bits_table))]
 pub fn rank_bits(symbols: usize) -> usize
     ensures { result ≡ rank_bits symbols }
 {
@@ -35,6 +38,7 @@ pub fn rank_bits(symbols: usize) -> usize
 }
 
 // How many arguments the root of the term at this place has: those of its symbol, and none of a variable.
+#[tactic(auto, using(crate::proofs::At::symbol_arguments, crate::proofs::At::variable_arguments))]
 pub fn arguments_at(bytes: &[u8], arities: [u8; 16], at: usize) -> usize
     requires { Standing bytes.now arities at }
     ensures { (t : Term) (e : ℕ) → At bytes.now arities at t e → result ≡ count (arguments t) }

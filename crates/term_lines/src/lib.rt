@@ -1,5 +1,7 @@
 // The lines that tell a term. Each function lays its text onto the start of the buffer that is lent to it, as far as it fits, and answers
 // how many bytes it laid.
+#![tactic(auto)]
+
 ghost use Rattle.std.specs.Prelude.{◌<◌, ◌≡◌, take};
 ghost use Rattle.text.specs.Laying.{Lays};
 ghost use Rattle.term_lines.specs.Hex.{hex_digit, hex_of, hex_text};

@@ -1,4 +1,6 @@
 // Terms as text: `f2(f0,x1)` for symbol 2 over symbol 0 and variable 1.
+#![tactic(auto)]
+
 ghost use Rattle.std.specs.Prelude.{◌≡◌};
 ghost use Rattle.text.specs.Laying.{Lays};
 ghost use Rattle.term.specs.Prefix.{node_of, arity_of};
@@ -16,6 +18,7 @@ pub struct Texted {
 }
 
 // How many arguments a node has: those of its symbol, none of a variable.
+#[tactic(auto, using(term::proofs::Nodes::symbol_opens))]
 fn arguments(arities: [u8; 16], kind: u8, body: u8) -> u8
     ensures { result ≡ arity_of arities (node_of kind body) }
 {

@@ -1,4 +1,6 @@
 // Words and numbers read from a text. The definitions stand in specs/, and in those of `text`.
+#![tactic(auto)]
+
 ghost use Rattle.std.specs.Prelude.{◌+◌, [], ◌∷◌, ◌≡◌, eqb, drop};
 ghost use Rattle.text.specs.Decimal.{value_of, number, not_above, within};
 ghost use Rattle.words.specs.Numbers.{told};

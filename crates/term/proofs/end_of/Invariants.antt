@@ -1,0 +1,18 @@
+-- Where a term stands at `at`, `missing` terms stand from `place` to its end. The measure is what is left of the bytes.
+use Prim.Native.Nat.{ℕ, ◌-◌}
+use mathlib.Core.List.{List}
+use lib.ListN.{length}
+use Rattle.term.specs.Term.{Term}
+use Rattle.term.specs.At.{At}
+use Rattle.term.proofs.At.{Several}
+use Rattle.term.proofs.end_of.Given as goal
+
+-- What a term that stands at `at` leaves to come.
+abbrev pub ToCome : (bytes arities : List ℕ) (at missing place : ℕ) → Type 0
+ToCome bytes arities at missing place = (t : Term) (e : ℕ) → At bytes arities at t e → Several bytes arities missing place e
+
+abbrev pub invariant-loop-missing : goal.invariant-loop-missing
+invariant-loop-missing l = ToCome l.bytes l.arities l.at l.missing l.place
+
+abbrev pub decreases-loop-missing : goal.decreases-loop-missing
+decreases-loop-missing l = length l.bytes - l.place

@@ -1,0 +1,19 @@
+-- `missing` terms stand from `left` and from `right` to their ends, and decide whether those at a and b are identical.
+use Prim.Native.Nat.{ℕ, ◌-◌}
+use mathlib.Core.List.{List}
+use lib.ListN.{length}
+use Rattle.term.specs.Term.{Term, same}
+use Rattle.term.specs.At.{At}
+use Rattle.term.proofs.SameAt.{Pairs}
+use Rattle.term.proofs.same_at.Given as goal
+
+-- What terms that stand at a and b leave to compare.
+abbrev pub ToCompare : (bytes arities : List ℕ) (a b missing left right : ℕ) → Type 0
+ToCompare bytes arities a b missing left right =
+    (s t : Term) (d e : ℕ) → At bytes arities a s d → At bytes arities b t e → Pairs bytes arities missing left right d e (same s t)
+
+abbrev pub invariant-loop-missing : goal.invariant-loop-missing
+invariant-loop-missing l = ToCompare l.bytes l.arities l.a l.b l.missing l.left l.right
+
+abbrev pub decreases-loop-missing : goal.decreases-loop-missing
+decreases-loop-missing l = length l.bytes - l.left
