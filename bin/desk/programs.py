@@ -117,18 +117,17 @@ class Programs:
             return built if self._is_current(built) else self._prove(state)
 
     def _prove(self, state):
-        """Both in one `rt check`, whose lines tell how far it is."""
+        """Each by `rt run`, whose lines tell how far it is: it builds only what is proved."""
         self.say(f"{state}: proving and building them; the first time this takes some minutes")
         before, log = sum_of_sources(self.home), os.path.join(os.path.dirname(self.record), "log")
         said = children.Output(1 << 24)
-        lines = _Lines(self.say)
         try:
-            status = children.run(["rt", "check", *PROGRAMS], take=lambda piece: (lines(piece), said(piece))[1], folder=self.home)
+            proved = all(self._build(name, said) for name in PROGRAMS)
         finally:
             with open(log, "wb") as file:
                 file.write(said.text)
-        if status != 0 or sum_of_sources(self.home) != before or not all(os.access(self.path(name), os.X_OK) for name in PROGRAMS):
-            why = "they are not proved" if status != 0 else "the sources changed meanwhile, or a program is missing"
+        if not proved or sum_of_sources(self.home) != before or not all(os.access(self.path(name), os.X_OK) for name in PROGRAMS):
+            why = "the sources changed meanwhile, or a program is missing" if proved else "they are not proved"
             raise broken(f"{why}; target/desk/log has what rt said")
         built = {"version": version(self.home), "sources": before, "kit": self._kit(), **{name: sum_of_file(self.path(name)) for name in PROGRAMS}}
         part = self.record + ".part"
@@ -136,6 +135,20 @@ class Programs:
             file.write("".join(f"{name} {value}\n" for name, value in built.items()))
         os.rename(part, self.record)
         return built
+
+    def _build(self, name, said):
+        """Has a program proved, and lays it beside the other. `rt run` runs it too, here on no input."""
+        folder, lines = os.path.join(self.home, "crates", name), _Lines(self.say)
+        built = os.path.join(folder, "out", name)
+        if os.path.lexists(built):
+            os.remove(built)
+        children.run(["sh", "-c", "exec rt run 2>&1"], take=lambda piece: (lines(piece), said(piece))[1], folder=folder)
+        if not lines.proved or not os.access(built, os.X_OK):
+            return False
+        os.makedirs(self.folder, exist_ok=True)
+        shutil.copy(built, self.path(name) + ".part")
+        os.rename(self.path(name) + ".part", self.path(name))
+        return True
 
     def _kit(self):
         said = children.Output(200)
@@ -205,13 +218,17 @@ def _request(call, number=0, book=b"", text=b"", record=b""):
 
 
 class _Lines:
-    """rt's lines on crates, said as they come."""
+    """rt's lines on crates, said as they come; `proved` is what it said of the last one."""
 
     def __init__(self, say):
-        self.say, self.rest = say, b""
+        self.say, self.rest, self.crate, self.proved = say, b"", "", False
 
     def __call__(self, piece):
         *lines, self.rest = (self.rest + piece).split(b"\n")
         for line in lines:
-            if re.match(rb"rt: \S+ (proved|NOT PROVED)", line):
-                self.say(line[4:].decode(errors="replace"))
+            crate = re.match(rb"crate (\S+): ", line)
+            if crate:
+                self.crate = crate.group(1).decode(errors="replace")
+            elif line.startswith(b"logic="):
+                self.proved = line.startswith(b"logic=proved ")
+                self.say(f"{self.crate} {'proved' if self.proved else 'NOT PROVED'}")

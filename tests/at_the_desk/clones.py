@@ -84,12 +84,15 @@ def releases():
 
 
 STUB = """\
-echo "$@" >>"{calls}"
+name=${{PWD##*/}}
+echo "$1 $name" >>"{calls}"
 [ "$1" = version ] && echo stub && exit 0
-cp "{programs}"/clause_file "{programs}"/rulebook_pipe "{home}/target/bin/"
-echo 'rt: reply proved (1 s)'
-echo 'rt: rulebook_pipe {verdict} (2 s)'
-exit {status}
+mkdir -p out && cp "{programs}/$name" out/
+echo 'crate reply: modules loaded=1 checked=0'
+echo 'logic=proved functions=1'
+echo "crate $name: modules loaded=0 checked=1"
+[ $name = rulebook_pipe ] && echo 'logic={verdict}' && exit {status}
+echo 'logic=proved functions=1'
 """
 
 
@@ -100,6 +103,8 @@ class Clone:
         self.home, self.calls = os.path.join(room.outer, "clone"), os.path.join(room.outer, "calls")
         self.room = room
         os.makedirs(os.path.join(self.home, "crates", "one", "src"))
+        for program in ("clause_file", "rulebook_pipe"):
+            os.mkdir(os.path.join(self.home, "crates", program))
         os.makedirs(os.path.join(self.home, "target", "bin"))
         os.mkdir(os.path.join(room.outer, "kit"))
         copy_desk(self.home)
@@ -114,18 +119,18 @@ class Clone:
         # older than every program, as an unpacked archive's files are
         os.utime(os.path.join(self.home, "crates", "one", "src", "main.rt"), (1, 1))
 
-    def rt(self, verdict="proved", status=0):
+    def rt(self, verdict="proved functions=1", status=0):
         path = os.path.join(self.room.outer, "kit", "rt")
         with open(path, "w", encoding="utf-8") as file:
             programs = os.path.join(Room.tried, "target", "bin")
-            file.write("#!/bin/sh\n" + STUB.format(calls=self.calls, programs=programs, home=self.home, verdict=verdict, status=status))
+            file.write("#!/bin/sh\n" + STUB.format(calls=self.calls, programs=programs, verdict=verdict, status=status))
         os.chmod(path, 0o755)
 
     def called(self):
         if not os.path.exists(self.calls):
             return 0
         with open(self.calls, encoding="utf-8") as file:
-            return file.read().count("check clause_file rulebook_pipe\n")
+            return file.read().count("run rulebook_pipe\n")
 
     def with_rt(self):
         path = ":".join((os.path.join(self.room.outer, "kit"), self.room.tools(), "/usr/bin:/bin"))
@@ -140,16 +145,16 @@ def building():
         clone = Clone(room)
         no_rt = "and the Rattle toolchain's command rt is not on the PATH"
         room.expect(2, "", f"the program clause_file is not built, {no_rt}", "show", "addition.book", **clone.without_rt())
-        clone.rt(verdict="NOT PROVED", status=1)
+        clone.rt(verdict="not-proved", status=1)
         ran = room.expect(2, "", "they are not proved; target/desk/log has what rt said", "show", "addition.book", **clone.with_rt())
-        holds("a proof that fails is told", "rulebook_pipe NOT PROVED (2 s)" in ran.sentences)
+        holds("a proof that fails is told", "rulebook_pipe NOT PROVED" in ran.sentences)
         room.expect(2, "", "they are not proved; target/desk/log has what rt said", "show", "addition.book", **clone.with_rt())
         room.expect(2, "", f"the programs are not known to be built from the sources that stand here, {no_rt}", "show", "addition.book", **clone.without_rt())
         compare("nothing is recorded of what is not proved", 2, clone.called())
         clone.rt()
-        ran = room.expect(0, "symbols f0/0 f1/1 f2/2", "rulebook_pipe proved (2 s)", "show", "addition.book", **clone.with_rt())
-        holds("how far it is, crate by crate", "reply proved (1 s)" in ran.sentences)
-        compare("proved by one call", 3, clone.called())
+        ran = room.expect(0, "symbols f0/0 f1/1 f2/2", "rulebook_pipe proved", "show", "addition.book", **clone.with_rt())
+        holds("how far it is, crate by crate", "reply proved" in ran.sentences)
+        compare("proved by one call each", 3, clone.called())
         room.expect(0, "symbols f0/0 f1/1 f2/2", "", "show", "addition.book", **clone.with_rt())
         room.expect(0, "symbols f0/0 f1/1 f2/2", "", "show", "addition.book", **clone.without_rt())
         compare("and not again", 3, clone.called())
@@ -158,18 +163,18 @@ def building():
         room.expect(2, "", stale, "show", "addition.book", **clone.without_rt())
         ran = room.expect(0, "rulebook 1.0.0", "", "--version", **clone.without_rt())
         holds("--version says that they are older", "rulebook_pipe not built from these sources" in ran.out)
-        room.expect(0, "symbols f0/0 f1/1 f2/2", "rulebook_pipe proved (2 s)", "show", "addition.book", **clone.with_rt())
+        room.expect(0, "symbols f0/0 f1/1 f2/2", "rulebook_pipe proved", "show", "addition.book", **clone.with_rt())
         compare("proved again after a change", 4, clone.called())
         for part in ("specs", "proofs"):
             os.mkdir(os.path.join(clone.home, "crates", "one", part))
             with open(os.path.join(clone.home, "crates", "one", part, "Lib.antt"), "w", encoding="utf-8") as file:
                 file.write("\n")
             room.expect(2, "", stale, "show", "addition.book", **clone.without_rt())
-            room.expect(0, "symbols f0/0 f1/1 f2/2", "rulebook_pipe proved (2 s)", "show", "addition.book", **clone.with_rt())
+            room.expect(0, "symbols f0/0 f1/1 f2/2", "rulebook_pipe proved", "show", "addition.book", **clone.with_rt())
         with open(os.path.join(clone.home, "target", "bin", "rulebook_pipe"), "ab") as file:
             file.write(b"\0")
         room.expect(2, "", stale, "show", "addition.book", **clone.without_rt())
-        room.expect(0, "symbols f0/0 f1/1 f2/2", "rulebook_pipe proved (2 s)", "show", "addition.book", **clone.with_rt())
+        room.expect(0, "symbols f0/0 f1/1 f2/2", "rulebook_pipe proved", "show", "addition.book", **clone.with_rt())
         room.expect(0, "cleared", ORDER_LAST, "check", "addition.book", "ordered", **clone.without_rt())
 
 

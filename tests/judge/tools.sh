@@ -12,6 +12,27 @@ need_rt() {
     command -v rt >/dev/null 2>&1 || { echo "$0: the Rattle toolchain's command rt is not on the PATH" >&2; exit 2; }
 }
 
+# proved CRATE PATH FILE VERB: `rt VERB` proves the crate and builds FILE in its out/; where that is done it goes to PATH.
+proved() {
+    mkdir -p target/log "$(dirname "$2")"
+    built=crates/$1/out/$3
+    rm -f "$built"
+    (cd "crates/$1" && rt "$4" </dev/null) >"target/log/$1" 2>&1 || true
+    grep '^logic=' "target/log/$1" | tail -n 1 | grep -q '^logic=proved ' && [ -f "$built" ] || return 1
+    cp "$built" "$2"
+}
+
+# A program is run once on no input, as `rt run` does.
+build_program() {
+    need_rt
+    proved "$1" "target/bin/$1" "$1" run || { tail -n 20 "target/log/$1" >&2; echo "$0: crates/$1 is not proved" >&2; return 1; }
+}
+
+build_archive() {
+    need_rt
+    proved rulebook_c "$ARCHIVE" librulebook_c.a lib || { tail -n 20 target/log/rulebook_c >&2; echo "$0: crates/rulebook_c is not proved" >&2; return 1; }
+}
+
 build_judge() {
     need rustc rustc
     need cc "gcc libc6-dev"

@@ -1,7 +1,7 @@
 -- The lines of an answer, one by one: what is left of them, behind what the lines so far have said, is read as the whole answer is.
 -- Assumes nothing.
 use Prim.Native.Nat.{ℕ, ◌+◌, ◌-◌, ◌≤◌, ◌<◌}
-use mathlib.Core.List.{List, [], ◌∷◌}
+use mathlib.Core.List.{List, ◌∷◌}
 use mathlib.Core.Path.{◌≡◌, refl, sym, ap, subst, ◌∙◌}
 use native.Mathlib.Omega.{arith}
 use lib.Dec.{eqb}
@@ -13,7 +13,7 @@ use Rattle.reply.specs.declared.Refusal.{Refusal as Named}
 use Rattle.reply.specs.declared.Refusal.TheVariants as Refusals
 use Rattle.text.specs.Text.{pieces, newline, up_to}
 use Rattle.clauses.specs.Cnf.{Literal}
-use Rattle.answer_lines.specs.Values.{Values, unclosed, closed}
+use Rattle.answer_lines.specs.Values.{unclosed, closed}
 use Rattle.answer_lines.specs.Lines.{Said, nothing, satisfied, no_model, line_of, line_after, lines_after, whole, read_answer}
 use Rattle.answer_lines.specs.Marks.{table_of}
 use Rattle.answer_lines.specs.Progress.{HoldsSaid, Tells}

@@ -6,7 +6,7 @@ use mathlib.Core.Path.{◌≡◌, refl, sym, ap, ap₂, ◌∙◌}
 use contract.Lifetimes.{Lfts}
 use borrow.Fn.Kinds.{Dens, ended_of}
 use denote.Triple.Clauses.{AtExit}
-use Rattle.reply.specs.Reply.{Refusal, Reply, given, refused}
+use Rattle.reply.specs.Reply.{Reply}
 use Rattle.reply.specs.Refusals.{numbered}
 use Rattle.reply.specs.declared.Refusal.{Refusal as Named}
 use Rattle.reply.proofs.Given.{given_not_refused}

@@ -1,6 +1,6 @@
 -- A solver's answer, line by line: refusals 13 and 14.
 use Rattle.std.specs.Prelude.{ℕ, ◌+◌, Bool, true, false, ◌||◌, List, [], ◌∷◌, length}
-use Rattle.reply.specs.Reply.{Refusal, Reply, given, refused, ◌>>◌, ◌>>=◌, ◌at◌}
+use Rattle.reply.specs.Reply.{Refusal, Reply, given, refused, ◌>>=◌, ◌at◌}
 use Rattle.text.specs.Text.{ascii, same_text, pieces, newline, space, words}
 use Rattle.clauses.specs.Cnf.{Literal}
 use Rattle.answer_lines.specs.Values.{Values, unclosed, closed, items_after}

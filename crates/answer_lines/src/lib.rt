@@ -1,4 +1,6 @@
 // A solver's answer, line by line, and the values that its lines name. The definitions stand in specs/.
+#![tactic(auto)]
+
 mod values;
 
 ghost use Rattle.std.specs.Prelude.{◌≡◌, List, ℕ, ◌≤◌};

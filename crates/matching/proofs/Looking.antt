@@ -16,7 +16,7 @@ use Rattle.term.specs.At.{At, ArgsAt, none_at, and_at}
 use Rattle.term.proofs.At.{FirstAt, joined, root_passed, at_arguments, args_end, args_first, args_none, args_long}
 use Rattle.book.specs.Book.{Rule}
 use Rattle.steps.specs.NextStep.{Taken, lowest, taken_at, taken_in, taken_in_args}
-use Rattle.matching.specs.FirstPlace.{Applies, StepAt, found_nowhere, FirstPlace}
+use Rattle.matching.specs.FirstPlace.{Applies, found_nowhere, FirstPlace}
 use Rattle.matching.specs.Table.{nothing_fits}
 use Rattle.building.specs.declared.Match.{Match}
 use Rattle.building.specs.declared.Fit.{Fit}

@@ -1,7 +1,7 @@
 -- The rules are tried one by one, from the lowest number on: as long as none fits, the later ones decide. Assumes nothing.
 use Prim.Native.Nat.{ℕ, suc, ◌+◌, ◌<◌, ◌≤◌}
 use mathlib.Core.Bool.{Bool, true, false}
-use mathlib.Core.List.{List, [], ◌∷◌}
+use mathlib.Core.List.{List, ◌∷◌}
 use mathlib.Core.Option.{Option, none, some, map}
 use mathlib.Core.Path.{◌≡◌, refl, sym, ap, subst, ◌∙◌}
 use native.Mathlib.Numerals.{add-one}
@@ -15,7 +15,7 @@ use Rattle.steps.specs.Fits.{fits}
 use Rattle.steps.specs.Step.{rule_of}
 use Rattle.steps.specs.NextStep.{lowest}
 use Rattle.matching.specs.Table.{Holds}
-use Rattle.matching.specs.FirstPlace.{Applies, FirstRule}
+use Rattle.matching.specs.FirstPlace.{FirstRule}
 use Rattle.building.specs.declared.Match.{Match}
 use Rattle.building.specs.declared.Fit.{Fit}
 use Rattle.steps.proofs.NextStep.{front_lowest, later_lowest}

@@ -3,7 +3,6 @@
 use Prim.Native.Nat.{ℕ}
 use mathlib.Core.Bool.{Bool, true, false}
 use mathlib.Core.List.{List}
-use mathlib.Core.Option.{none, some}
 use mathlib.Core.Path.{◌≡◌, refl, sym, ap, ap₂, subst, ◌∙◌}
 use borrow.Fn.Kinds.{Dens, ended_of}
 use contract.Lifetimes.{Lfts}
@@ -13,7 +12,7 @@ use Rattle.term.specs.At.{At}
 use Rattle.term.proofs.At.{at_unique}
 use Rattle.book.specs.Book.{Rule}
 use Rattle.steps.specs.Step.{rule_of}
-use Rattle.steps.specs.NextStep.{Taken, taken_in}
+use Rattle.steps.specs.NextStep.{Taken}
 use Rattle.steps.proofs.Chosen.{found_nothing}
 use Rattle.building.specs.declared.Fit.{Fit}
 use Rattle.building.specs.declared.Match.{Match}

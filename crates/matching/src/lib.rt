@@ -1,4 +1,6 @@
 // The place of a step: "the first place in postorder at which some rule fits, and there the rule with the lowest number".
+#![tactic(auto)]
+
 mod table;
 
 ghost use Rattle.std.specs.Prelude.{ℕ, List, length};

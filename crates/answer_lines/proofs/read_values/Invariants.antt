@@ -1,0 +1,11 @@
+-- At every turn the stage and the table hold what the lines before have said.
+use Prim.Native.Nat.{◌-◌}
+use lib.ListN.{length}
+use Rattle.answer_lines.proofs.AllLines.{From}
+use Rattle.answer_lines.proofs.read_values.Given as goal
+
+abbrev pub invariant-loop-at : goal.invariant-loop-at
+invariant-loop-at l = From l.text l.variables l.rank_variables l.stage l.table l.at
+
+abbrev pub decreases-loop-at : goal.decreases-loop-at
+decreases-loop-at l = length l.text - l.at
