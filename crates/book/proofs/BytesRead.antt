@@ -5,11 +5,11 @@ use mathlib.Core.List.{List, [], ◌∷◌, ◌++◌, append_assoc, append-nil}
 use mathlib.Core.Path.{◌≡◌, refl, sym, ap, ap₂, subst, ◌∙◌}
 use native.Mathlib.Omega.{arith}
 use lib.Dec.{T, eqb, eqb→eq, leb→le, ltb→lt}
-use lib.ListN.{length, get_or, take, drop, length-take, length-drop, length-append, take-append-drop}
+use lib.ListN.{length, get_or, take, drop, length-take, length-drop, take-append-drop}
 use Rattle.reply.specs.Reply.{given}
 use Rattle.reply.specs.declared.Refusal.TheVariants.{BookEnded}
 use Rattle.reply.proofs.Given.{refused_not_given, bind_given, then_given, unless_given_alone, either_given, told_given}
-use Rattle.term.specs.Tables.{Kind, unknown, symbol, rule, symbol_node, variable_node, end, kind_of, body_length, body_lengths}
+use Rattle.term.specs.Tables.{Kind, symbol, rule, kind_of, body_length, body_lengths}
 use Rattle.term.specs.Term.{Term}
 use Rattle.term.specs.Prefix.{Node, symbolic, variable, arity_of, prefix, tree}
 use Rattle.term.proofs.Prefix.{NodeOver, declared, standing, Leaves, leaves_next, node_bytes, nodes_bytes, nodes_bytes_append, TreeOf, tree_fills}

@@ -26,8 +26,8 @@ use Rattle.book.specs.Checks.{known, allowed, body_fits, body_checked, room_left
 use Rattle.book.specs.Sides.{side_open, no_rule_yet, no_side}
 use Rattle.book.specs.declared.sides.Side.{Side}
 use Rattle.book.specs.declared.sides.Stage.{Stage as SideStage}
-use Rattle.book.specs.declared.sides.Stage.TheVariants.{BeforeRules, InLeft, InRight, RuleWhole}
-use Rattle.book.specs.Reading.{Stage, before_rules, in_left, in_right, rule_whole, State, side_of, left_after, right_after, node_at, next, record_at, ended, read_from, start, read_book}
+use Rattle.book.specs.declared.sides.Stage.TheVariants.{BeforeRules, InLeft, InRight}
+use Rattle.book.specs.Reading.{before_rules, rule_whole, State, side_of, left_after, right_after, node_at, next, record_at, ended, read_from, start, read_book}
 use Rattle.term.proofs.TreeBack.{own_arguments}
 
 -- The nodes of a term in prefix order ..

@@ -9,7 +9,7 @@ use lib.Dec.{T, eqb, leb→le, ltb→lt}
 use lib.ListN.{length, get_or, take, drop, length-append}
 use Rattle.reply.specs.Reply.{given}
 use Rattle.reply.specs.declared.Refusal.TheVariants.{BookEnded}
-use Rattle.term.specs.Tables.{Kind, unknown, symbol, rule, symbol_node, variable_node, end, kind_of, body_length, body_lengths}
+use Rattle.term.specs.Tables.{Kind, symbol, kind_of, body_length, body_lengths}
 use Rattle.term.specs.Term.{Term}
 use Rattle.term.specs.Prefix.{Node, symbolic, variable, arity_of, tree}
 use Rattle.reply.proofs.Given.{refused_not_given, bind_given, then_given, either_given, told_given}

@@ -2,10 +2,10 @@
 use Prim.Native.Nat.{ℕ, zero, suc, ◌+◌}
 use mathlib.Core.Bool.{Bool, true, false}
 use mathlib.Core.List.{List, [], ◌∷◌, Memᴰ}
-use mathlib.Core.Path.{◌≡◌, refl, sym, ap, subst, ◌∙◌}
-use lib.Dec.{T, eqb}
+use mathlib.Core.Path.{◌≡◌, refl, subst}
+use lib.Dec.{eqb}
 use lib.ListN.{length, take, drop}
-use Rattle.reply.specs.Reply.{Refusal, Attempt, Reply, given, refused, told_as, unless, ◌>>◌, ◌>>=◌}
+use Rattle.reply.specs.Reply.{Refusal, Attempt, given, refused, told_as, unless, ◌>>◌, ◌>>=◌}
 use Rattle.reply.specs.Refusals.{numbered}
 use Rattle.reply.specs.declared.Refusal.{Refusal as Named}
 use Rattle.reply.specs.declared.Refusal.TheVariants.{BookEnded, UnknownKind, NotAllowed, BadBody, TooMany, AfterEnd}

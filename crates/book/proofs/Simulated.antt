@@ -7,7 +7,7 @@ use native.Mathlib.Omega.{arith}
 use lib.Dec.{T, ltb→lt}
 use lib.ListN.{length, get_or, drop, set, length-append}
 use lib.Seq.{get_or-set_same, get_or-take}
-use Rattle.term.specs.Tables.{Kind, unknown, symbol, rule, symbol_node, variable_node, end, kind_of, body_length, body_lengths}
+use Rattle.term.specs.Tables.{Kind, symbol, rule, kind_of, body_length, body_lengths}
 use Rattle.term.specs.Term.{Term}
 use Rattle.term.specs.Prefix.{Node, symbolic, variable, arity_of, tree, tree_at}
 use Rattle.term.proofs.Prefix.{NodeOver, declared, standing, node_bytes}

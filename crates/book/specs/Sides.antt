@@ -1,5 +1,5 @@
 -- The side of a rule that is being read: how many of its subterms are missing, and how many nodes came.
-use Rattle.std.specs.Prelude.{ℕ, zero, suc, ◌+◌, pred, Bool, true, false}
+use Rattle.std.specs.Prelude.{ℕ, ◌+◌, pred, Bool, true, false}
 use Rattle.book.specs.declared.sides.Side.{Side}
 use Rattle.book.specs.declared.sides.Stage.{Stage}
 use Rattle.book.specs.declared.sides.Stage.TheVariants.{BeforeRules, InLeft, InRight, RuleWhole}

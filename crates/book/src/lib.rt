@@ -1,4 +1,6 @@
 // Reading books. The definitions stand in specs/.
+#![tactic(auto)]
+
 mod checks;
 mod sides;
 
@@ -17,7 +19,7 @@ use text::wide;
 // A book that was read, as places in its bytes: there is no heap for trees, and the bytes stay with the caller. Symbol f has arity
 // arities[f]. The left side of rule i stands from left_at[i] on and has left_nodes[i] nodes, the right side from right_at[i] on and has
 // right_nodes[i]. Entries past the counts are 0.
-#[derive(Drop)]
+#[derive(Clone, Copy)]
 pub struct Book {
     pub symbols: usize,
     pub arities: [u8; 16],
@@ -50,6 +52,7 @@ fn byte_at(bytes: &[u8], at: usize) -> u8
 }
 
 // No symbol, no rule, every entry 0.
+#[tactic(auto, unfolding(crate::specs::Entries::nothing_read))]
 fn nothing_read() -> Book
     ensures { result ≡ nothing_read }
 {
@@ -65,6 +68,7 @@ fn nothing_read() -> Book
 }
 
 // A refused reading, with nothing read.
+#[tactic(auto, unfolding(crate::specs::Placed::answer))]
 fn refuse(refusal: Refusal) -> ReadBook
     ensures { result ≡ answer (refused refusal) }
 {
@@ -76,6 +80,7 @@ fn refuse(refusal: Refusal) -> ReadBook
 }
 
 // How many subterms a node opens: its symbol's arity, none for a variable.
+#[tactic(auto, unfolding(crate::specs::Meaning::opens_of))]
 fn opens(kind: u8, arity: u8) -> usize
     ensures counts { result ≡ opens_of kind arity }
     ensures small { result < 256 }

@@ -4,7 +4,7 @@ ghost use Rattle.book.specs.Sides.{side_open, no_rule_yet, left_open, no_side, o
 
 // Where the reading of a book stands: the left side is open from the start of its rule on, the right side as soon as the left is whole,
 // and none once the right is whole.
-#[derive(Drop)]
+#[derive(Clone, Copy)]
 pub enum Stage {
     BeforeRules,
     InLeft,
@@ -14,7 +14,7 @@ pub enum Stage {
 
 // A small struct of its own, so that the tests of a record and the taking of a node need no table of the book. Where no side is open
 // both counts are 0.
-#[derive(Drop)]
+#[derive(Clone, Copy)]
 pub struct Side {
     pub stage: Stage,
     pub missing: usize,
@@ -22,6 +22,7 @@ pub struct Side {
 }
 
 // Whether a side is open.
+#[tactic(auto, unfolding(crate::specs::Sides::side_open))]
 pub fn side_open(stage: Stage) -> bool
     ensures { result ≡ side_open stage }
 {
@@ -34,6 +35,7 @@ pub fn side_open(stage: Stage) -> bool
 }
 
 // Whether symbols may still come.
+#[tactic(auto, unfolding(crate::specs::Sides::no_rule_yet))]
 pub fn no_rule_yet(stage: Stage) -> bool
     ensures { result ≡ no_rule_yet stage }
 {
@@ -46,6 +48,7 @@ pub fn no_rule_yet(stage: Stage) -> bool
 }
 
 // No side is open.
+#[tactic(auto, unfolding(crate::specs::Sides::no_side))]
 pub fn no_side(stage: Stage) -> Side
     ensures { result ≡ no_side stage }
 {
@@ -57,6 +60,7 @@ pub fn no_side(stage: Stage) -> Side
 }
 
 // A side of which nothing came yet.
+#[tactic(auto, unfolding(crate::specs::Sides::opened))]
 pub fn open_side(stage: Stage) -> Side
     ensures { result ≡ opened stage }
 {
@@ -68,6 +72,7 @@ pub fn open_side(stage: Stage) -> Side
 }
 
 // Whether the side is a left one.
+#[tactic(auto, unfolding(crate::specs::Sides::left_open))]
 pub fn left_open(side: Side) -> bool
     ensures { result ≡ left_open side.stage }
 {
@@ -79,6 +84,7 @@ pub fn left_open(side: Side) -> bool
 }
 
 // One node more, which opens so many subterms.
+#[tactic(auto, unfolding(crate::specs::Sides::with_node))]
 pub fn with_node(side: Side, opens: usize) -> Side
     requires missing_nonzero { 0 < side.missing }
     requires missing_bound { side.missing ≤ 65536 }

@@ -1,5 +1,7 @@
 // The order on terms that stand in bytes: "Comparing two terms and comparing two argument lists call each other, the sizes of both
 // sides together falling." A term is the place of its first node; every node is two bytes.
+#![tactic(auto)]
+
 ghost use Rattle.std.specs.Prelude.{◌≡◌, ℕ, ◌<◌};
 ghost use Rattle.term.specs.Term.{Term, size};
 ghost use Rattle.term.specs.At.{At, Standing};
@@ -7,13 +9,14 @@ ghost use Rattle.order.specs.Precedence.{above};
 ghost use Rattle.comparing.specs.Compared.{RootAt, SameAt, SideAt, ArgumentsAt, ListsAt, ExceedsAt, SomeReachesAt, ExceedsEveryAt, DecreasesAt};
 
 // What a comparison knows of each symbol: its arity and its rank.
-#[derive(Drop)]
+#[derive(Clone, Copy)]
 pub struct Symbols {
     pub arities: [u8; 16],
     pub ranks: [u8; 16],
 }
 
 // "f is above g exactly if its rank is larger."
+#[tactic(auto, unfolding(order::specs::Precedence::above))]
 fn higher(symbols: Symbols, f: usize, g: usize) -> bool
     requires { (f < 16) × (g < 16) }
     ensures { result ≡ above symbols.ranks f g }

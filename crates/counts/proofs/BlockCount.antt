@@ -13,7 +13,7 @@ use Rattle.book.specs.declared.Book.{Book as Places}
 use Rattle.clauses.specs.Numbering.{base_after, first_base}
 use Rattle.clauses.specs.Blocks.{pair_blocks, rule_blocks, rules_blocks, blocks}
 use Rattle.clauses.specs.File.{clause_bytes, file_blocks}
-use Rattle.book.specs.WasRead.{ReadFrom, WasRead}
+use Rattle.book.specs.WasRead.{ReadFrom}
 use Rattle.clauses.proofs.BlockNumbers.{pairs_count, rule_blocks_count}
 use Rattle.book.proofs.WasRead.{read_stands}
 use Rattle.counts.proofs.ReadRules.{read_symbols, rule_next}

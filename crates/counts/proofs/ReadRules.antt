@@ -10,7 +10,7 @@ use lib.ListN.{length, get_or, drop, drop_of_length-le}
 use lib.Seq.{drop-cons}
 use Rattle.term.specs.Tables.{rank_bits}
 use Rattle.term.specs.Term.{var, size}
-use Rattle.book.specs.Book.{Book, Rule, symbols}
+use Rattle.book.specs.Book.{Rule, symbols}
 use Rattle.book.specs.Limits.{WithinLimits}
 use Rattle.book.specs.Meaning.{book_at}
 use Rattle.book.specs.Standing.{BookStands}

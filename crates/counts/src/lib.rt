@@ -1,4 +1,6 @@
 // V, and how many blocks there are: what is counted without looking at a term.
+#![tactic(auto)]
+
 ghost use Rattle.std.specs.Prelude.{ℕ, List, ◌≡◌, length};
 ghost use Rattle.book.specs.Meaning.{book_at};
 ghost use Rattle.book.specs.WasRead.{ReadFrom, WasRead};
