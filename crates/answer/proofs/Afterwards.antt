@@ -46,17 +46,17 @@ use Rattle.answer.proofs.PaddedRanks.{length_ranks_of, same_padded}
 
 -- What the contract asks of an answer and of the lent buffer, for the reply x on paper.
 abbrev pub AnsweredAs : Reply (List ℕ) → (buffer : List ℕ) → Answered → (after : List ℕ) → Type 0
-AnsweredAs x buffer r after = (answered_meaning r ≡ length_of x) × (after ≡ laid x buffer)
+AnsweredAs x buffer r after = record { means : answered_meaning r ≡ length_of x; lays : after ≡ laid x buffer }
 
 as_refused : {x : Reply (List ℕ)} (buffer : List ℕ) (why : Named) → x ≡ refused (numbered why) → AnsweredAs x buffer (Refused why) buffer
 unfolding length_of laid answered_meaning
-as_refused buffer why e = rw e (refl, refl)
+as_refused buffer why e = rw e (record { means = refl; lays = refl })
 
 as_given :
     {x : Reply (List ℕ)} {ranks : List ℕ} (buffer after : List ℕ) (n : ℕ) → x ≡ given ranks → n ≡ length ranks → after ≡ overlaid ranks buffer →
     AnsweredAs x buffer (Accepted n) after
 unfolding length_of laid answered_meaning
-as_given buffer after n e count laid = rw e (ap (λ (m : ℕ). given m) count, laid)
+as_given buffer after n e count laid = rw e (record { means = ap (λ (m : ℕ). given m) count; lays = laid })
 
 -- There are at most four bits to a symbol, and at most 64 rank variables.
 pub bits_room : (n k : ℕ) → k ≡ rank_bits n → n ≤ 16 → (n ≤ 16) × (k ≤ 4) × (n * k ≤ 64)

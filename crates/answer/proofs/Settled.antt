@@ -6,7 +6,6 @@ use native.Mathlib.Omega.{arith}
 use contract.Lifetimes.{Lfts}
 use borrow.Fn.Kinds.{Dens, ended_of}
 use denote.Triple.Clauses.{AtExit}
-use Rattle.reply.specs.Reply.{Refusal, Reply, given, refused}
 use Rattle.reply.specs.Refusals.{numbered}
 use Rattle.reply.specs.declared.Refusal.{Refusal as Named}
 use Rattle.reply.proofs.Refusals.{numbered_apart}

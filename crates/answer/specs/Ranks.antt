@@ -1,6 +1,6 @@
 -- From a solver's answer to ranks that were checked.
 use Rattle.std.specs.Prelude.{ℕ, ◌*◌, List, leb, length}
-use Rattle.reply.specs.Reply.{Reply, given, refused, unless, ◌>>◌, ◌>>=◌, ◌at◌}
+use Rattle.reply.specs.Reply.{Reply, given, unless, ◌>>◌, ◌>>=◌, ◌at◌}
 use Rattle.term.specs.Tables.{rank_bits}
 use Rattle.book.specs.Book.{Book, symbols}
 use Rattle.book.specs.Reading.{read_book}

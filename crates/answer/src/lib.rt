@@ -1,4 +1,6 @@
 // The ranks of a solver's answer. The definitions stand in specs/.
+#![tactic(auto)]
+
 mod ranks;
 
 ghost use Rattle.std.specs.Prelude.{◌≡◌, length};

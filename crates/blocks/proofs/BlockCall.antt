@@ -2,11 +2,11 @@
 use Prim.Native.Nat.{ℕ, ◌≤◌, ◌<◌}
 use mathlib.Core.List.{List, ◌++◌}
 use mathlib.Core.Option.{none, some}
-use mathlib.Core.Path.{◌≡◌, refl, sym, ap, ◌∙◌}
+use mathlib.Core.Path.{◌≡◌, refl, ap, ◌∙◌}
 use native.Mathlib.Omega.{arith}
 use lib.ListN.{length, take, drop, get_elem?}
 use lib.Seq.{take_all}
-use Rattle.reply.specs.Reply.{Refusal, Reply, given, refused, ◌>>=◌}
+use Rattle.reply.specs.Reply.{Reply, given, refused, ◌>>=◌}
 use Rattle.reply.specs.Refusals.{numbered}
 use Rattle.reply.specs.declared.Refusal.{Refusal as Named}
 use Rattle.reply.specs.declared.Refusal.TheVariants.{NoSuchBlock, ShortBuffer}
@@ -19,6 +19,12 @@ use Rattle.clauses.specs.File.{file_blocks, block_of, block}
 use Rattle.clauses.proofs.BlockReply.{no_block, short_room, its_text, block_of_read}
 use Rattle.clauses.proofs.Bounds.{block_at_most}
 use Rattle.clauses.proofs.Elements.{element_member}
+use Rattle.book.specs.Meaning.{book_at}
+use Rattle.book.specs.declared.Book.{Book as PlacedBook}
+use Rattle.blocks.specs.Found.{FindsBlock}
+use Rattle.blocks.specs.declared.finding.Place.{Place}
+use Rattle.blocks.specs.declared.finding.Place.TheVariants.{Nowhere}
+use Rattle.blocks.proofs.FileBlocks.{some_text}
 use Rattle.blocks.specs.Written.{written_meaning}
 use Rattle.blocks.specs.declared.Written.{Written}
 use Rattle.blocks.specs.declared.Written.TheVariants.{Laid, Refused}
@@ -69,3 +75,20 @@ module _ (bytes : List ℕ) (number : ℕ) (buffer : List ℕ) where
       (book : Book) → read_book bytes ≡ given book → (r : Written) (after : List ℕ) → WritesAs (block_of book number (length buffer)) buffer r after →
       WritesAs (block bytes number (length buffer)) buffer r after
   of_read_book book read r after allowed = rw (block_of_read bytes number (length buffer) book read) allowed
+
+-- A buffer under 512 bytes, where the block is somewhere.
+short_place :
+    (bytes : List ℕ) (b : PlacedBook) (number : ℕ) (place : Place) (buffer : List ℕ) → FindsBlock bytes b number place → (place ≡ Nowhere → ⊥) →
+    length buffer < 512 → WritesAs (block_of (book_at bytes b) number (length buffer)) buffer (Refused ShortBuffer) buffer
+short_place bytes b number place buffer finds somewhere h =
+    short_buffer (book_at bytes b) number buffer (some_text bytes b number place finds somewhere).1 h
+
+pub short_place_means :
+    (bytes : List ℕ) (b : PlacedBook) (number : ℕ) (place : Place) (buffer : List ℕ) → FindsBlock bytes b number place → (place ≡ Nowhere → ⊥) →
+    length buffer < 512 → written_meaning (Refused ShortBuffer) ≡ length_of (block_of (book_at bytes b) number (length buffer))
+short_place_means bytes b number place buffer finds somewhere h = (short_place bytes b number place buffer finds somewhere h).0
+
+pub short_place_leaves :
+    (bytes : List ℕ) (b : PlacedBook) (number : ℕ) (place : Place) (buffer : List ℕ) → FindsBlock bytes b number place → (place ≡ Nowhere → ⊥) →
+    length buffer < 512 → buffer ≡ laid (block_of (book_at bytes b) number (length buffer)) buffer
+short_place_leaves bytes b number place buffer finds somewhere h = (short_place bytes b number place buffer finds somewhere h).1

@@ -1,8 +1,8 @@
 -- A read book's file by numbers: the header, then the pairs, then the rules. Assumes nothing.
 use Prim.Native.Nat.{ℕ, zero, suc, ◌+◌, ◌-◌, ◌*◌, ◌≤◌, ◌<◌}
 use mathlib.Core.List.{List, [], ◌∷◌, ◌++◌, map, flat_map}
-use mathlib.Core.Option.{Option, none, some}
-use mathlib.Core.Path.{◌≡◌, refl, sym, ap, subst, ◌∙◌}
+use mathlib.Core.Option.{none, some}
+use mathlib.Core.Path.{◌≡◌, refl, ap, subst, ◌∙◌}
 use native.Mathlib.Omega.{arith}
 use lib.ListN.{length, get_or, get_elem?}
 use Rattle.term.specs.Tables.{rank_bits}
@@ -13,7 +13,7 @@ use Rattle.clauses.specs.Numbering.{first_base}
 use Rattle.clauses.specs.Blocks.{pair_blocks, rule_blocks, rules_blocks, blocks}
 use Rattle.clauses.specs.File.{clause_bytes, header, file_blocks}
 use Rattle.rule_blocks.specs.Nodes.{setting_of}
-use Rattle.blocks.specs.Found.{FoundIn, Finds, RuleText, FindsBlock}
+use Rattle.blocks.specs.Found.{Finds, RuleText, FindsBlock}
 use Rattle.book.specs.WasRead.{ReadFrom}
 use Rattle.blocks.specs.RulePlaces.{rules_of}
 use Rattle.blocks.specs.declared.finding.Place.{Place}

@@ -1,8 +1,7 @@
 -- The rules' blocks from rule to rule: those of the first, and behind them those of the others, whose base is 2|l||r| larger.
 -- Assumes nothing.
 use Prim.Native.Nat.{ℕ, ◌+◌, ◌-◌, ◌*◌, ◌≤◌, ◌<◌}
-use mathlib.Core.List.{List, [], ◌∷◌, ◌++◌, flatten}
-use mathlib.Core.Option.{none}
+use mathlib.Core.List.{List, [], ◌++◌, flatten}
 use mathlib.Core.Path.{◌≡◌, refl, sym, ap, ap₂, subst, ◌∙◌}
 use native.Mathlib.Omega.{arith}
 use lib.ListN.{length, drop, get_elem?, length-append, drop_of_length-le}

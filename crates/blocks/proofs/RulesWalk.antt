@@ -1,36 +1,30 @@
 -- What is known of a read book, rule by rule: where its rules stand, each with its base. Assumes nothing.
-use Prim.Native.Nat.{ℕ, zero, suc, ◌+◌, ◌*◌, ◌≤◌, ◌<◌}
-use mathlib.Core.List.{List, [], ◌∷◌, Memᴰ}
-use mathlib.Core.Path.{◌≡◌, refl, sym, ap, ap₂, subst, ◌∙◌}
+use Prim.Native.Nat.{ℕ, ◌+◌, ◌*◌, ◌≤◌, ◌<◌}
+use mathlib.Core.List.{List, ◌∷◌, Memᴰ}
+use mathlib.Core.Path.{◌≡◌, sym, ap, ap₂, subst, ◌∙◌}
 use native.Mathlib.Numerals.{add-one}
 use native.Mathlib.Omega.{arith}
 use lib.Dec.{T}
-use lib.ListN.{length, get_or, take, drop, drop_of_length-le}
+use lib.ListN.{length, get_or, drop}
 use lib.Seq.{drop-cons}
-use Rattle.reply.proofs.Every.{Every, every_at, every_member, every_of_members}
-use Rattle.term.specs.Tables.{rank_bits}
+use Rattle.reply.proofs.Every.{every_member}
 use Rattle.term.specs.Term.{Term, var, app, size, count, over}
 use Rattle.term.specs.Root.{arguments}
-use Rattle.book.specs.Book.{Book, Rule, symbols}
+use Rattle.book.specs.Book.{Rule}
 use Rattle.book.specs.Limits.{WithinLimits, SideWithinLimits}
 use Rattle.book.specs.Meaning.{book_at}
 use Rattle.book.specs.Standing.{SideStands, BookStands}
 use Rattle.book.proofs.WasRead.{read_limits, read_stands}
 use Rattle.clauses.proofs.RankBits.{rank_bits_few}
 use Rattle.book.specs.declared.Book.{Book as PlacedBook}
-use Rattle.clauses.specs.Numbering.{first_base, base_after}
-use Rattle.clauses.specs.Blocks.{Numbered, subterms, base_behind, «V»}
-use Rattle.rule_blocks.specs.Nodes.{WithinMaximum}
+use Rattle.clauses.specs.Numbering.{base_after}
 use Rattle.book.specs.WasRead.{ReadFrom, WasRead}
 use Rattle.blocks.specs.RulePlaces.{placed_rule}
 use Rattle.counts.proofs.ReadRules.{read_few_symbols, rule_next, BaseAt, base_goes_on}
 use Rattle.rule_blocks.specs.Rules.{SmallSide, RuleStands}
 use Rattle.rule_blocks.specs.declared.PlacedRule.{PlacedRule}
-use Rattle.clauses.proofs.Bounds.{variables_at_most}
 use Rattle.clauses.proofs.Elements.{element_member, element_there}
 use Rattle.clauses.proofs.Inside.{Inside, subterms_inside, arity_kept, symbol_declared}
-use Rattle.clauses.proofs.Numbers.{base_grows}
-use Rattle.numbering.proofs.Small.{product}
 
 -- The arguments of a subterm of a side are at most six.
 few_arguments : (arities : List ℕ) → ((a : ℕ) → Memᴰ a arities → a ≤ 6) → (t : Term) → T (over arities t) → count (arguments t) ≤ 6

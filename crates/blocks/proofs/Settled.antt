@@ -1,7 +1,7 @@
 -- Two replies that the contract of one function allows are equal, and so is what they leave in the lent buffer, said of the contracts
 -- themselves: an answer can be told from what it means. Assumes nothing.
 use Prim.Native.Nat.{ℕ}
-use mathlib.Core.Path.{◌≡◌, refl, sym, ap, ◌∙◌}
+use mathlib.Core.Path.{◌≡◌, sym, ap, ◌∙◌}
 use contract.Lifetimes.{Lfts}
 use borrow.Fn.Kinds.{Dens, ended_of}
 use denote.Triple.Clauses.{AtExit}

@@ -1,4 +1,6 @@
 // The block call: the blocks of a book's clause file by their numbers, laid into lent buffers. The definitions stand in specs/.
+#![tactic(auto)]
+
 mod bases;
 mod finding;
 mod header;

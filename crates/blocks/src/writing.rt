@@ -39,6 +39,7 @@ fn write_place(bytes: &[u8], book: Book, place: Place, out: &mut [u8]) -> usize
 }
 
 // "block 10, 9", of a book that was read from these bytes.
+#[tactic(auto, using(crate::proofs::BlockCall::short_place_means, crate::proofs::BlockCall::short_place_leaves))]
 pub fn write_read_block(bytes: &[u8], book: Book, number: usize, out: &mut [u8]) -> Written
     requires { ReadFrom bytes.now book }
     ensures means { written_meaning result ≡ length_of (block_of (book_at bytes.now book) number (length out.old)) }

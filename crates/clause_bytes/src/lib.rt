@@ -1,4 +1,6 @@
 // Clauses as bytes: short clauses, and the clauses that tie a whole to its parts, laid onto lent buffers.
+#![tactic(auto)]
+
 mod literals;
 pub mod parts;
 pub mod writing;

@@ -10,7 +10,7 @@ use crate::literals::{write_clause_end, write_literal};
 use crate::writing::{Literal, write_clause_of_one, write_clause_of_two};
 
 // The variables of the parts, `many` of them, at most 8: G or D and six arguments are 7.
-#[derive(Drop)]
+#[derive(Clone, Copy)]
 pub struct Parts {
     pub many: usize,
     pub of: [usize; 8],

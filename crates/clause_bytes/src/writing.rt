@@ -7,7 +7,7 @@ ghost use Rattle.clause_bytes.specs.Meaning.{meant};
 use crate::literals::{write_clause_end, write_literal};
 
 // A variable of the file, or its negation.
-#[derive(Drop)]
+#[derive(Clone, Copy)]
 pub enum Literal {
     Is(usize),
     IsNot(usize),
