@@ -1,6 +1,6 @@
 /* use BOOK RANKS RECORD: checks the ranks, then runs the record in slices of 1,000 steps until it comes to rest. It is C99 and C++11.
  *
- * In a clone, once `rt staticlib rulebook` has proved and built the library:
+ * In a clone, once `bin/library` has proved and built the library:
  *
  *     cc -Iinclude -o use examples/c/use.c target/staticlib/librulebook.a
  *     ./use examples/dosing.book examples/dosing.book.ranks examples/dosing.record
