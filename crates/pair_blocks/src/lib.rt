@@ -1,4 +1,6 @@
 // The blocks of pairs of symbols: G(f,g,j), "the low j bits of f are the larger number", bit by bit.
+#![tactic(auto)]
+
 ghost use Rattle.std.specs.Prelude.{◌-◌, ◌*◌, ◌≤◌, ◌<◌, ◌≡◌, get_or};
 ghost use mathlib.Core.List.{[], flat_map};
 ghost use Rattle.term.specs.Tables.{rank_bits};

@@ -1,5 +1,7 @@
 // The lines by which the programs tell a refusal, a verdict and ranks. Each function lays its text onto the start of the buffer that is
 // lent to it, as far as it fits, and answers how many bytes it laid; a program writes those and nothing else.
+#![tactic(auto)]
+
 ghost use Rattle.std.specs.Prelude.{take};
 ghost use Rattle.reply.specs.Refusals.{numbered};
 ghost use Rattle.text.specs.Laying.{Lays};
