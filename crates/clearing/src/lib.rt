@@ -1,4 +1,6 @@
 // The rank check: whether proposed ranks make every rule of a book decrease.
+#![tactic(auto)]
+
 ghost use Rattle.std.specs.Prelude.{◌≡◌, ◌≤◌, length};
 ghost use Rattle.book.specs.Meaning.{book_at};
 ghost use Rattle.book.specs.WasRead.{ReadFrom};
