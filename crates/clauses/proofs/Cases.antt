@@ -1,12 +1,11 @@
 -- Cases of the clause file, document 01's printed one among them, computed. Assumes nothing.
-use Prim.Native.Nat.{ℕ}
 use mathlib.Core.Path.{◌≡◌, refl}
-use mathlib.Core.List.{List, [], ◌∷◌}
-use mathlib.Core.Option.{Option, none, some}
+use mathlib.Core.List.{[], ◌∷◌}
+use mathlib.Core.Option.{none, some}
 use Rattle.reply.specs.Reply.{given, refused, ◌at◌}
 use Rattle.text.specs.Text.{ascii}
 use Rattle.book.specs.Examples.{fx_to_gx, x_to_x}
-use Rattle.clauses.specs.Cnf.{Literal, is, is_not, Cnf}
+use Rattle.clauses.specs.Cnf.{is, is_not}
 use Rattle.clauses.specs.File.{block, clause_program}
 use Rattle.clauses.specs.Dimacs.{read_dimacs}
 use Rattle.clauses.specs.Computing.{computing}

@@ -1,9 +1,9 @@
 -- What stands at a number in a list that is put together: behind another list, under a map, in rows of one width. Assumes nothing.
 use Prim.Native.Nat.{ℕ, zero, suc, ◌+◌, ◌*◌, ◌≤◌, ◌<◌}
 use mathlib.Core.List.{List, [], ◌∷◌, ◌++◌, map, flat_map, Memᴰ}
-use mathlib.Core.Option.{Option, none, some}
-use mathlib.Core.Path.{◌≡◌, refl, sym, ap, subst, ◌∙◌}
-use native.Mathlib.Nat.{suc-mul, zero-mul, zero-add, add_assoc, suc-add}
+use mathlib.Core.Option.{none, some}
+use mathlib.Core.Path.{◌≡◌, refl, sym, ap, ◌∙◌}
+use native.Mathlib.Nat.{suc-mul, zero-mul, zero-add, suc-add}
 use native.Mathlib.Omega.{arith}
 use lib.ListN.{length, get_or, get_elem?, length-append}
 use Rattle.reply.proofs.Every.{Every}

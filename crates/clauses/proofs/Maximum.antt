@@ -1,8 +1,8 @@
 -- The bounds as document 01 states them. The largest book has sixteen symbols of one argument, and 32 times the rule that leaves nine of
 -- them over a variable as they are: 16²·4 + 32·2·10·10 variables. Assumes nothing.
-use Prim.Native.Nat.{ℕ, zero, suc, ◌≤◌}
+use Prim.Native.Nat.{ℕ, zero, suc}
 use mathlib.Core.List.Memᴰ
-use mathlib.Core.List.{List, [], ◌∷◌, Memᴰ}
+use mathlib.Core.List.{Memᴰ}
 use mathlib.Core.Logic.{⊎_elim}
 use mathlib.Core.Path.{◌≡◌, refl, sym, subst}
 use native.Mathlib.Omega.{arith}
@@ -13,7 +13,6 @@ use Rattle.term.proofs.Tables.{rank_bits_least}
 use Rattle.book.specs.Book.{Book, Rule}
 use Rattle.book.specs.Limits.{SideWithinLimits, WithinLimits}
 use Rattle.clauses.specs.Bounds.{RankBitsLeast, VariablesAtMaximum, BlocksWithin512}
-use Rattle.clauses.specs.Blocks.{«V»}
 use Rattle.clauses.specs.Computing.{computing}
 use Rattle.clauses.proofs.Bounds.{variables_at_most, block_at_most}
 

@@ -1,7 +1,7 @@
 -- The variables of a rule's node blocks lie within, if G of different symbols, and C and D of any two nodes do. Assumes nothing.
 use Prim.Native.Nat.{ℕ, suc, ◌+◌, ◌≤◌, ◌<◌}
 use mathlib.Core.Bool.{Bool, true, false}
-use mathlib.Core.List.{List, [], ◌∷◌, ◌++◌, map}
+use mathlib.Core.List.{List, [], ◌∷◌, map}
 use mathlib.Core.Logic.{◌≢◌}
 use mathlib.Core.Path.{◌≡◌, refl}
 use native.Mathlib.Omega.{arith}

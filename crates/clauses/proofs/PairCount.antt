@@ -1,13 +1,13 @@
 -- How many clauses the pairs' blocks have: three at the lowest bit and six at each other, for each of n(n−1) pairs. Assumes nothing.
-use Prim.Native.Nat.{ℕ, zero, suc, ◌+◌, ◌-◌, ◌*◌, ◌≤◌}
+use Prim.Native.Nat.{ℕ, zero, suc, ◌-◌, ◌*◌}
 use mathlib.Core.Bool.{Bool, true, false}
-use mathlib.Core.List.{List, [], ◌∷◌, ◌++◌, map, flat_map, flatten}
+use mathlib.Core.List.{List, [], ◌∷◌, flat_map, flatten}
 use mathlib.Core.Path.{◌≡◌, refl, sym, ap, ◌∙◌}
 use native.Mathlib.Nat.{suc-mul, zero-mul}
 use native.Mathlib.Omega.{arith}
 use lib.Dec.{eqb}
 use lib.ListN.{length, length-append}
-use Rattle.reply.proofs.Every.{Every, every_flat_map, every_implied, every_of_members}
+use Rattle.reply.proofs.Every.{Every, every_flat_map}
 use Rattle.clauses.specs.Cnf.{Clause}
 use Rattle.clauses.specs.Numbering.{numbers}
 use Rattle.clauses.specs.Blocks.{pair_clauses, pair_block, pair_blocks_of, pair_blocks, lowest_bit, higher_bit}

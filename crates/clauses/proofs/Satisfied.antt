@@ -1,15 +1,15 @@
 -- The clauses of a book hold exactly if its equations do: a block says that a whole is true exactly if all, or some, of its parts are.
 -- Assumes nothing.
 use Prim.Native.Nat.{ℕ}
-use mathlib.Core.Bool.{Bool, true, false, not, ◌&&◌, ◌||◌, beq, and-true, or-true}
+use mathlib.Core.Bool.{Bool, true, false, ◌||◌}
 use mathlib.Core.List.{List, [], ◌∷◌, map, flat_map, flatten, Memᴰ}
 use mathlib.Core.Logic.{◌↔◌}
-use mathlib.Core.Path.{◌≡◌, refl, sym, ◌∙◌, ap, ap₂}
+use mathlib.Core.Path.{◌≡◌, refl}
 use lib.Dec.{T}
 use Rattle.term.specs.Tables.{rank_bits}
 use Rattle.term.specs.Term.{size}
 use Rattle.book.specs.Book.{Book, Rule, symbols}
-use Rattle.clauses.specs.Cnf.{is, is_not, Clause, Assignment, holds, some_holds, all_hold}
+use Rattle.clauses.specs.Cnf.{is, Clause, Assignment, all_hold}
 use Rattle.clauses.specs.Numbering.{first_base, base_after}
 use Rattle.clauses.specs.Blocks.{pair_blocks, Numbered, subterms, Setting, CAt, DAt, parts_of_d, parts_of_c, some_identical, node_block, rule_blocks, rules_blocks, blocks, clauses_of_c}
 use Rattle.clauses.specs.Wholes.{all_parts, some_parts}
@@ -24,7 +24,7 @@ use Rattle.clauses.proofs.Equations.{
   and_rule,
   Equations,
 }
-use Rattle.clauses.proofs.ClauseLists.{tests_whether, by_members, all_hold_append, clauses_both, blocks_hold_append, blocks_both}
+use Rattle.clauses.proofs.ClauseLists.{by_members, all_hold_append, clauses_both, blocks_hold_append, blocks_both}
 use Rattle.clauses.proofs.PairsSatisfied.{pairs_exactly}
 use Rattle.clauses.proofs.Wholes.{all_parts_exactly, some_parts_exactly, unit_exactly}
 

@@ -1,11 +1,11 @@
 -- The clauses of a book, block by block, behind the header.
-use Rattle.std.specs.Prelude.{ℕ, zero, suc, ◌+◌, ◌-◌, Bool, true, false, eqb}
+use Rattle.std.specs.Prelude.{ℕ, zero, suc, ◌+◌, Bool, true, false, eqb}
 use mathlib.Core.List.{List, [], ◌∷◌, ◌++◌, map, flat_map}
 use Rattle.term.specs.Tables.{rank_bits}
 use Rattle.term.specs.Term.{Term, Args, var, app, nil, cons, size, same}
 use Rattle.book.specs.Book.{Book, Rule, symbols}
 use Rattle.order.specs.Test.{some_arg}
-use Rattle.clauses.specs.Cnf.{Literal, is, is_not, Clause}
+use Rattle.clauses.specs.Cnf.{is, is_not, Clause}
 use Rattle.clauses.specs.Numbering.{bit, G, first_base, base_after, C, D, numbers}
 use Rattle.clauses.specs.Wholes.{all_parts, some_parts}
 

@@ -3,8 +3,8 @@ use Rattle.std.specs.Prelude.{ℕ, Bool, true, false, ◌&&◌, ◌||◌, List, 
 use Rattle.std.proofs.Math.Option.{Option, none, some}
 use Rattle.text.specs.Decimal.{number}
 use Rattle.text.specs.Text.{ascii, same_text, space, newline, words}
-use Rattle.clauses.specs.Cnf.{Literal, Clause, Cnf}
-use Rattle.clauses.specs.Item.{Item, closing, literal, faulty, item}
+use Rattle.clauses.specs.Cnf.{Clause, Cnf}
+use Rattle.clauses.specs.Item.{closing, literal, faulty, item}
 
 unfoldable pub blank : ℕ → Bool
 blank b = space b || newline b

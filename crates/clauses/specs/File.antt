@@ -1,9 +1,9 @@
 -- The clause file as bytes, its numbered blocks, and the clause program's output.
 use Rattle.std.specs.Prelude.{ℕ, leb, length}
-use mathlib.Core.List.{List, [], ◌∷◌, ◌++◌, map, flat_map, flatten}
+use mathlib.Core.List.{List, ◌∷◌, ◌++◌, map, flat_map, flatten}
 use Rattle.std.proofs.Math.Option.{Option, none, some}
 use Rattle.std.proofs.Math.ListN.{get_elem?}
-use Rattle.reply.specs.Reply.{Reply, Attempt, given, refused, unless, ◌>>◌, ◌>>=◌, ◌at◌}
+use Rattle.reply.specs.Reply.{Reply, given, refused, unless, ◌>>◌, ◌>>=◌, ◌at◌}
 use Rattle.text.specs.Decimal.{decimal}
 use Rattle.text.specs.Text.{ascii, refused_line}
 use Rattle.book.specs.Book.{Book}

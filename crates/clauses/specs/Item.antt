@@ -1,5 +1,5 @@
 -- One item of a clause or of a solver's values: a literal or the closing 0.
-use Rattle.std.specs.Prelude.{ℕ, Bool, true, false, ◌&&◌, List, [], ◌∷◌, leb, eqb}
+use Rattle.std.specs.Prelude.{ℕ, true, false, ◌&&◌, List, [], ◌∷◌, leb}
 use Rattle.std.proofs.Math.Option.{Option, none, some}
 use Rattle.text.specs.Decimal.{number}
 use Rattle.text.specs.Text.{ascii, same_text}

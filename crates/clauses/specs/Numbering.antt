@@ -1,5 +1,5 @@
 -- "Numbering of variables, from 1", and the ranks that an assignment's rank bits are.
-use Rattle.std.specs.Prelude.{ℕ, zero, suc, ◌+◌, ◌-◌, ◌*◌, ◌^◌, Bool, true, false, List, [], ◌∷◌, map, ltb}
+use Rattle.std.specs.Prelude.{ℕ, zero, suc, ◌+◌, ◌-◌, ◌*◌, ◌^◌, true, false, List, [], ◌∷◌, map, ltb}
 use Rattle.term.specs.Term.{size}
 use Rattle.book.specs.Book.{Rule}
 use Rattle.clauses.specs.Cnf.{Assignment}

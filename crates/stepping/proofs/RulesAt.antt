@@ -2,14 +2,12 @@
 -- lacks. Assumes nothing.
 use Prim.Native.Nat.{ℕ, ◌+◌, ◌*◌, ◌<◌, ◌≤◌}
 use mathlib.Core.List.{List}
-use mathlib.Core.Path.{◌≡◌, sym, ap, ◌∙◌}
 use native.Mathlib.Omega.{arith}
 use lib.ListN.{length, get_or}
-use Rattle.term.specs.Term.{Term, var, size}
+use Rattle.term.specs.Term.{var, size}
 use Rattle.term.specs.Replacement.{Occurs}
 use Rattle.term.specs.At.{At}
 use Rattle.book.specs.Book.{Rule}
-use Rattle.book.specs.Meaning.{book_at}
 use Rattle.book.specs.declared.Book.{Book as Places}
 use Rattle.book.proofs.WasRead.{read_stands, read_limits, right_limits}
 use Rattle.steps.specs.Step.{NoNewVariable, rule_of}

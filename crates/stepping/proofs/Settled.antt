@@ -1,6 +1,6 @@
 -- Two replies that the contract of a step allows are equal, and so is what they leave in the lent buffer, said of the contract itself: the
 -- outcomes exclude each other, and the next term is the one that the definition gives. Assumes nothing.
-use Prim.Native.Nat.{ℕ, ◌-◌, ◌*◌}
+use Prim.Native.Nat.{ℕ, ◌-◌}
 use mathlib.Core.List.{List, ◌++◌}
 use mathlib.Core.Option.{some}
 use mathlib.Core.Path.{◌≡◌, refl, sym, ap, ap₂, ◌∙◌}
@@ -12,7 +12,6 @@ use lib.ListN.{take, drop, take-append-drop}
 use lib.Seq.{take-take}
 use Rattle.term.specs.Term.{Term, size}
 use Rattle.term.specs.Prefix.{prefix}
-use Rattle.term.specs.At.{At}
 use Rattle.term.proofs.At.{at_end_lem}
 use Rattle.term.proofs.PrefixAt.{at_prefix}
 use Rattle.book.specs.Book.{Rule}

@@ -1,4 +1,6 @@
 // One step of a run: the place and the rule are found, and the next term is built.
+#![tactic(auto)]
+
 ghost use Rattle.std.specs.Prelude.{◌≤◌, length};
 ghost use Rattle.term.specs.Term.{Term};
 ghost use Rattle.term.specs.At.{At};
