@@ -1,5 +1,7 @@
 // The lines by which the programs tell a run, its next step and the argument question. Each function lays its text onto the start of the
 // buffer that is lent to it, as far as it fits, and answers how many bytes it laid; a program writes those and nothing else.
+#![tactic(auto)]
+
 ghost use Rattle.text.specs.Laying.{Lays};
 ghost use Rattle.stepping.specs.Stepped.{outcome_of};
 ghost use Rattle.next_step.specs.NextMeaning.{next_meaning};
