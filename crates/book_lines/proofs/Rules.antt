@@ -1,8 +1,7 @@
 -- The rules of a read book as lines: their sides stand at the book's places. Assumes nothing.
-use Prim.Native.Nat.{ℕ, ◌+◌, ◌-◌, ◌*◌, ◌≤◌, ◌<◌}
+use Prim.Native.Nat.{ℕ, ◌+◌, ◌-◌, ◌≤◌, ◌<◌}
 use mathlib.Core.List.{List, ◌++◌}
-use mathlib.Core.Path.{◌≡◌, ap, sym, ◌∙◌}
-use native.Mathlib.Omega.{arith}
+use mathlib.Core.Path.{◌≡◌, ap, ◌∙◌}
 use lib.ListN.{length, get_or, take}
 use borrow.Rule.Slice.PartMut.{mid_of, put_mid}
 use Rattle.text.specs.Laying.{Lays}

@@ -1,5 +1,7 @@
 // The lines that tell a book. Each function lays its text onto the start of the buffer that is lent to it, as far as it fits, and answers
 // how many bytes it laid.
+#![tactic(auto)]
+
 ghost use Rattle.std.specs.Prelude.{◌≤◌, ◌<◌, ◌++◌, get_or, take};
 ghost use Rattle.text.specs.Laying.{Lays};
 ghost use Rattle.book.specs.Meaning.{book_at};

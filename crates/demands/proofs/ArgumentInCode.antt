@@ -2,7 +2,7 @@
 -- the definition. Assumes nothing.
 use Prim.Native.Nat.{ℕ, ◌+◌}
 use mathlib.Core.Path.{◌≡◌, sym, ap, subst, ◌∙◌}
-use Rattle.reply.specs.Reply.{Reply, given, refused, ◌>>=◌}
+use Rattle.reply.specs.Reply.{Reply, given, refused}
 use Rattle.steps.specs.Argument.{Part, argument}
 use Rattle.asking.specs.Asked.{handed_out, part_bytes}
 use Rattle.demands.specs.EntryPoints.{Bytes, answer, an_argument}

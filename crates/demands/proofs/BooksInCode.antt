@@ -1,16 +1,13 @@
 -- Books in the running code: it answers as the definition does, which reads exactly the bytes of the books within the limits. Assumes nothing.
 use mathlib.Core.Logic.Iff
-use mathlib.Core.Logic.{◌↔◌}
-use mathlib.Core.Path.{◌≡◌, refl, sym, ap, ◌∙◌}
-use Rattle.reply.specs.Reply.{Reply, given, ◌>>=◌}
+use mathlib.Core.Path.{◌≡◌, sym, ap, ◌∙◌}
+use Rattle.reply.specs.Reply.{given, ◌>>=◌}
 use Rattle.reply.proofs.Given.{bind_given, given_bind}
-use Rattle.book.specs.Book.{Book}
 use Rattle.book.specs.Reading.{read_book}
-use Rattle.book.proofs.ReadExactly.{book_read_exactly}
-use Rattle.demands.specs.EntryPoints.{Bytes, Counts, counts_of, answer, reading_a_book, counting_a_book}
+use Rattle.demands.specs.EntryPoints.{Counts, counts_of, answer, reading_a_book, counting_a_book}
 use Rattle.demands.specs.Demand2.{BooksAreRead}
 use Rattle.demands.specs.InCode.{InCode, AsDefined}
-use Rattle.demands.specs.BooksInCode.{BooksInCode, CountedBook, BooksCountedInCode}
+use Rattle.demands.specs.BooksInCode.{BooksInCode, BooksCountedInCode}
 use Rattle.demands.specs.Functions.{read_book_in_code}
 use Rattle.demands.specs.ForC.{read_book_of_c}
 use Rattle.demands.proofs.AsDefined.{itself, read_book_as_defined}

@@ -1,5 +1,5 @@
 -- Budgets add up, by the law that a run which was not refused can be carried on. Assumes nothing.
-use Prim.Native.Nat.{ℕ, ◌+◌, ◌≤◌}
+use Prim.Native.Nat.{ℕ, ◌≤◌}
 use mathlib.Core.Path.{◌≡◌, refl, ◌∙◌}
 use Rattle.reply.specs.Reply.{given, ◌>>=◌}
 use Rattle.steps.specs.Run.{Outcome, done, spent, too_large, Ran}

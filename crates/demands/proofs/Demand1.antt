@@ -6,7 +6,7 @@ use mathlib.Core.List.{List, [], ◌∷◌, Memᴰ}
 use mathlib.Core.Option.{Option, none, some}
 use mathlib.Core.Path.{◌≡◌, refl, sym, ap, subst}
 use lib.Dec.{T, leb, eqb, eqb→eq}
-use lib.ListN.{length, get_or}
+use lib.ListN.{length}
 use Rattle.reply.specs.Reply.{Refusal, Attempt, Reply, given, refused, unless, told_as, ◌>>◌, ◌>>=◌, ◌at◌}
 use Rattle.reply.specs.Refusals.{numbered}
 use Rattle.reply.specs.declared.Refusal.{Refusal as Named}

@@ -14,21 +14,7 @@ use Rattle.demands.specs.EntryPoints.{EntryPoint, answer, entry_points, entry_po
 use Rattle.demands.specs.Demand1.{ResultOrRefusal, Demanded}
 use Rattle.demands.specs.GeneratedContract.{Settled}
 use Rattle.demands.specs.InCode.{InCode, AsDefined, DemandedInCode, Function, entries_of, Demand1InCode}
-use Rattle.demands.specs.Functions.{
-  read_book_contract,
-  write_block_contract,
-  check_ranks_contract,
-  ranks_from_answer_contract,
-  run_contract,
-  argument_reply_contract,
-  read_book_in_code,
-  write_block_in_code,
-  check_ranks_in_code,
-  ranks_from_answer_in_code,
-  run_in_code,
-  argument_in_code,
-  functions,
-}
+use Rattle.demands.specs.Functions.{read_book_in_code, write_block_in_code, check_ranks_in_code, ranks_from_answer_in_code, run_in_code, argument_in_code, functions}
 use Rattle.demands.specs.ForC.{read_book_of_c, write_block_of_c, check_ranks_of_c, ranks_from_answer_of_c, run_of_c, argument_of_c, functions_of_c}
 use Rattle.demands.proofs.Each.{no_more, also, each→}
 use Rattle.demands.proofs.Demand1.{answer_replies, book_demanded, counts_demanded, block_demanded, ranks_demanded, answer_demanded, run_demanded, argument_demanded}

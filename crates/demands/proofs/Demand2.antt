@@ -39,7 +39,7 @@ use Rattle.printed_answer.proofs.LinesBack.{read_well_formed}
 use Rattle.printed_answer.proofs.Decided.{answers_decided}
 use Rattle.printed_answer.proofs.Usual.{usual_well_formed, usual_short}
 use Rattle.printed_answer.proofs.UsualBytes.{usual_bytes}
-use Rattle.steps.specs.Run.{Yields, run, run_from}
+use Rattle.steps.specs.Run.{Yields, run_from}
 use Rattle.steps.proofs.OwnStep.{own_step_is_free}
 use Rattle.steps.proofs.Run.{run_yields, run_settled}
 use Rattle.clauses.proofs.Maximum.{rank_bits_are_least, blocks_within_512, variables_at_maximum}

@@ -1,6 +1,6 @@
 -- Demand 3: a cleared book comes to rest. A strict precedence that clears gives ranks that do; ranks give a reduction order; a reduction
 -- order bounds every sequence of free steps; and a run's steps are such a sequence. Assumes nothing.
-use Prim.Native.Nat.{ℕ, ◌≤◌, ◌<◌}
+use Prim.Native.Nat.{ℕ, ◌<◌}
 use mathlib.Core.List.{List, Memᴰ}
 use mathlib.Core.Logic.{◌⊎◌, inl, inr}
 use mathlib.Core.Bool.{Bool, true, false}
@@ -16,7 +16,7 @@ use Rattle.book.specs.Reading.{read_book}
 use Rattle.record.specs.Record.{read_record}
 use Rattle.book.specs.Limits.{WithinLimits}
 use Rattle.book.proofs.Limits.{read_within_limits}
-use Rattle.order.specs.Precedence.{StrictPrecedence, Above}
+use Rattle.order.specs.Precedence.{Above}
 use Rattle.order.specs.Clearing.{Clears, ranks_clear}
 use Rattle.order.specs.Exceeds.{Exceeds}
 use Rattle.order.specs.Test.{exceeds}
@@ -27,8 +27,7 @@ use Rattle.order.proofs.Grows.{over→declared}
 use Rattle.order.proofs.RanksOfPrecedence.{ranks_of_precedence}
 use Rattle.order.proofs.PathOrder.{ranks_order}
 use Rattle.order.proofs.Among.{rules_go_down}
-use Rattle.steps.specs.Step.{Steps}
-use Rattle.steps.specs.Run.{Outcome, done, spent, too_large, Ran, run_from, ran_cleared, run}
+use Rattle.steps.specs.Run.{Outcome, done, spent, too_large, Ran, run_from}
 use Rattle.steps.proofs.Bound.{bounded}
 use Rattle.steps.proofs.Run.{never_spent_lem}
 use Rattle.steps.proofs.Accepted.{accepted, run_of}

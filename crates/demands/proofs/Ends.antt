@@ -5,8 +5,8 @@ use mathlib.Core.List.{List, []}
 use mathlib.Core.Path.{◌≡◌, refl, sym, ap, ◌∙◌}
 use denote.Ref.{Bor, MutBor, at_last}
 use lib.ListN.{length, replicate, length-replicate}
-use Rattle.reply.specs.Reply.{Refusal, Reply, given, refused, ◌>>=◌}
-use Rattle.reply.specs.Lent.{laid, length_of}
+use Rattle.reply.specs.Reply.{Refusal, Reply, given, refused}
+use Rattle.reply.specs.Lent.{laid}
 use Rattle.book.specs.Placed.{placed}
 use Rattle.book.proofs.Placed.{placed_means}
 use Rattle.clearing.specs.Meaning.{ranks_meaning}
@@ -21,7 +21,7 @@ use Rattle.answer.specs.Ranks.{ranks_from_answer}
 use Rattle.answer.specs.Answered.{answered_meaning}
 use Rattle.answer.specs.declared.Answered.{Answered}
 use Rattle.answer.specs.declared.Answered.TheVariants as answers
-use Rattle.steps.specs.Run.{Outcome, done, spent, too_large, Ran, run, ran_bytes}
+use Rattle.steps.specs.Run.{Outcome, done, spent, too_large, run, ran_bytes}
 use Rattle.steps.specs.Argument.{Part, argument}
 use Rattle.stepping.specs.Stepped.{outcome_of}
 use Rattle.stepping.specs.declared.Outcome.{Outcome as Ending}
@@ -35,7 +35,6 @@ use Rattle.asking.specs.declared.ArgumentReply.TheVariants as parts
 use Rattle.demands.specs.EntryPoints.{Bytes, EntryPoint, answer, a_block, checking_ranks, ranks_of_an_answer, a_run, an_argument}
 use Rattle.demands.specs.Demand1.{ResultOrRefusal}
 use Rattle.demands.specs.InCode.{InCode}
-use Rattle.demands.specs.ArgumentInCode.{HandsOut}
 use Rattle.demands.specs.Functions.{
   read_book_in_code,
   write_block_in_code,

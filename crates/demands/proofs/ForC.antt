@@ -3,7 +3,7 @@
 use Prim.Native.Nat.{ℕ}
 use mathlib.Core.Bool.{Bool, true, false, not, ◌&&◌}
 use mathlib.Core.List.{List, [], ◌∷◌, Memᴰ}
-use mathlib.Core.Path.{◌≡◌, refl, sym, ap, ◌∙◌}
+use mathlib.Core.Path.{◌≡◌, refl, ap, ◌∙◌}
 use denote.Ref.{at_last}
 use lib.Dec.{T, eqb}
 use lib.ListN.{length, length-replicate}
@@ -15,11 +15,11 @@ use Rattle.book.specs.Reading.{read_book}
 use Rattle.order.specs.Clearing.{check_ranks}
 use Rattle.clauses.specs.File.{block}
 use Rattle.answer.specs.Ranks.{ranks_from_answer}
-use Rattle.steps.specs.Run.{Outcome, done, spent, too_large, Ran, run, ran_bytes}
+use Rattle.steps.specs.Run.{Outcome, done, spent, too_large, run, ran_bytes}
 use Rattle.steps.specs.Argument.{Part, argument}
 use Rattle.running.specs.RunMeaning.{Told, run_told}
 use Rattle.rulebook.specs.Replies.{verdict_reply, book_reply, written_reply, outcome_number, ran_reply, part_reply}
-use Rattle.demands.specs.EntryPoints.{Bytes, Counts, counts_of, answer, buffer_after, counting_a_book, a_block, checking_ranks, ranks_of_an_answer, a_run, an_argument}
+use Rattle.demands.specs.EntryPoints.{counts_of, answer, buffer_after, counting_a_book, a_block, checking_ranks, ranks_of_an_answer, a_run, an_argument}
 use Rattle.demands.specs.Demand1.{ResultOrRefusal}
 use Rattle.demands.specs.InCode.{AsDefined}
 use Rattle.demands.specs.ForC.{

@@ -2,7 +2,6 @@
 -- nothing.
 use mathlib.Core.Logic.Iff
 use mathlib.Core.Path.{◌≡◌, sym, ap, ◌∙◌}
-use Rattle.reply.specs.Reply.{◌>>=◌}
 use Rattle.order.specs.Clearing.{check_ranks}
 use Rattle.order.proofs.Checked.{accepted_exactly}
 use Rattle.demands.specs.EntryPoints.{answer, checking_ranks}

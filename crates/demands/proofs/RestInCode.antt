@@ -1,19 +1,15 @@
 -- Demand 3 of the running code: ranks that are accepted clear the book, so the definition's N bounds the sequences. Assumes nothing.
-use Prim.Native.Nat.{ℕ, ◌≤◌}
-use mathlib.Core.List.{List}
-use mathlib.Core.Logic.{◌⊎◌}
+use Prim.Native.Nat.{ℕ}
 use mathlib.Core.Path.{◌≡◌, subst}
 use Rattle.reply.specs.Reply.{given}
-use Rattle.term.specs.Term.{Term}
 use Rattle.book.specs.Book.{Book}
 use Rattle.book.specs.Reading.{read_book}
-use Rattle.record.specs.Record.{read_record}
 use Rattle.record.proofs.ReadRecord.{record_read}
 use Rattle.order.proofs.Checked.{ranks_clear_exactly}
 use Rattle.steps.specs.Run.{Ran, run}
 use Rattle.demands.specs.EntryPoints.{Bytes, checking_ranks, ranks_of_an_answer, a_run}
 use Rattle.demands.specs.Demand2.{SomePrecedenceClears}
-use Rattle.demands.specs.Demand3.{Bounds, ComesToRest}
+use Rattle.demands.specs.Demand3.{ComesToRest}
 use Rattle.demands.specs.InCode.{InCode, AsDefined}
 use Rattle.demands.specs.RanksInCode.{AcceptedInCode}
 use Rattle.demands.specs.RunInCode.{NeverSpentInCode}

@@ -1,7 +1,7 @@
 -- What a case of "Examples at the edges" can say, and when it holds. What is expected stands in the case as data.
 use Rattle.std.specs.Prelude.{ℕ, zero, suc, Bool, true, false, ◌&&◌, eqb}
 use mathlib.Core.List.{List, [], ◌∷◌, map, flat_map}
-use Rattle.reply.specs.Reply.{Refusal, Reply, Attempt, given, refused, ◌at◌}
+use Rattle.reply.specs.Reply.{Refusal, Reply, given, refused, ◌at◌}
 use Rattle.text.specs.Text.{same_text}
 use Rattle.record.specs.Record.{record_bytes}
 use Rattle.order.specs.Clearing.{check_ranks}

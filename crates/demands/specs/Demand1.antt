@@ -2,7 +2,7 @@
 -- refusal. A refusal changes no byte of any buffer we lend."
 use Rattle.std.specs.Prelude.{ℕ, ◌≡◌}
 use mathlib.Core.List.{List, Memᴰ}
-use Rattle.reply.specs.Reply.{Refusal, Reply, Attempt, given, refused}
+use Rattle.reply.specs.Reply.{Refusal, Reply, given, refused}
 use Rattle.reply.specs.Refusals.{numbered}
 use Rattle.reply.specs.declared.Refusal.{Refusal as Named}
 use Rattle.demands.specs.EntryPoints.{Bytes, EntryPoint, buffer_after, entry_points}

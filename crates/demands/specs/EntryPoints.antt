@@ -1,6 +1,6 @@
 -- The six entry points side by side: what each is asked, what it replies, which numbers it refuses with, what it writes.
 use Rattle.std.specs.Prelude.{ℕ, List, [], ◌∷◌, length}
-use Rattle.reply.specs.Reply.{Reply, given, refused, ◌>>=◌}
+use Rattle.reply.specs.Reply.{Reply, given, ◌>>=◌}
 use Rattle.reply.specs.Lent.{laid}
 use Rattle.book.specs.Book.{Book, symbols}
 use Rattle.book.specs.Reading.{read_book}

@@ -1,5 +1,5 @@
 -- The functions of the code: which contract each entry point has, what is asked by what is handed over, and what is answered and left in the lent buffer.
-use Rattle.std.specs.Prelude.{ℕ, ◌+◌, List, [], ◌∷◌, ◌≡◌, refl, length}
+use Rattle.std.specs.Prelude.{◌+◌, List, [], ◌∷◌, ◌≡◌, refl, length}
 use Rattle.book.specs.Meaning.{meaning}
 use Rattle.clearing.specs.Meaning.{ranks_meaning}
 use Rattle.blocks.specs.Written.{written_meaning}

@@ -1,7 +1,6 @@
 -- Cases of the rank check, computed. Assumes nothing.
-use Prim.Native.Nat.{ℕ}
 use mathlib.Core.Path.{◌≡◌, refl}
-use mathlib.Core.List.{List, [], ◌∷◌}
+use mathlib.Core.List.{[], ◌∷◌}
 use Rattle.reply.specs.Reply.{given, refused, ◌at◌}
 use Rattle.book.specs.Examples.{fx_to_gx, undoing}
 use Rattle.order.specs.Clearing.{check_ranks}

@@ -2,7 +2,7 @@
 -- that decides an order, and so of the ranks'. Each line of the check's `do` block is one conjunct: `unless_given_exactly` and
 -- `unless_refused_exactly` say which. Assumes nothing.
 use Prim.Native.Nat.{ℕ, suc, ◌+◌}
-use mathlib.Core.Bool.{Bool, true, false}
+use mathlib.Core.Bool.{Bool}
 use mathlib.Core.List.Memᴰ
 use mathlib.Core.List.{List, [], ◌∷◌, ◌++◌, Memᴰ}
 use mathlib.Core.Logic.Iff
@@ -11,7 +11,7 @@ use mathlib.Core.Path.{◌≡◌, refl, sym, ◌∙◌, ap, subst}
 use native.Mathlib.Omega.{arith}
 use lib.Dec.{T, eqb, eqb→eq, eqb_refl}
 use lib.ListN.{length}
-use Rattle.reply.specs.Reply.{Refusal, Attempt, Reply, given, refused, unless, ◌>>◌, ◌>>=◌, ◌at◌}
+use Rattle.reply.specs.Reply.{Refusal, Reply, given, refused, ◌>>=◌, ◌at◌}
 use Rattle.reply.proofs.Given.{given_not_refused, unless_given_exactly, unless_refused_exactly}
 use Rattle.term.specs.Term.{Term}
 use Rattle.book.specs.Book.{Book, Rule, symbols}

@@ -1,17 +1,16 @@
 -- A rule whose right side holds a variable that its left side lacks never decreases: what exceeds has every variable of what it exceeds.
 -- Assumes nothing.
 use Prim.Native.Nat.{ℕ}
-use mathlib.Core.Bool.{Bool, true, false}
+use mathlib.Core.Bool.{false}
 use mathlib.Core.List.{List}
-use mathlib.Core.Path.{◌≡◌, refl}
-use lib.Dec.{T}
+use mathlib.Core.Path.{◌≡◌}
 use Rattle.term.specs.Replacement.{Occurs}
 use Rattle.book.specs.Book.{Rule}
 use Rattle.reply.proofs.Tests.{equal_tests}
 use Rattle.order.specs.Precedence.{Above}
 use Rattle.order.specs.Exceeds.{Exceeds}
 use Rattle.order.specs.Test.{exceeds}
-use Rattle.order.specs.Clearing.{Decreases, decreases, NeverDecreases, NewVariableNeverDecreases}
+use Rattle.order.specs.Clearing.{Decreases, decreases, NewVariableNeverDecreases}
 use Rattle.order.proofs.Decides.{exceeds_decides}
 use Rattle.order.proofs.Kept.{no_new_variable_lem}
 

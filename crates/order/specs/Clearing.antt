@@ -1,7 +1,7 @@
 -- Clearing a book: every rule decreases. The rank check, refusals 7 and 8.
-use Rattle.std.specs.Prelude.{ℕ, zero, suc, Bool, false, ◌≡◌, eqb, length}
+use Rattle.std.specs.Prelude.{ℕ, suc, Bool, false, ◌≡◌, eqb, length}
 use mathlib.Core.List.{List, [], ◌∷◌, Memᴰ}
-use Rattle.reply.specs.Reply.{Reply, given, refused, unless, ◌>>◌, ◌>>=◌, ◌at◌}
+use Rattle.reply.specs.Reply.{Reply, given, unless, ◌>>◌, ◌>>=◌, ◌at◌}
 use Rattle.term.specs.Term.{Term}
 use Rattle.term.specs.Replacement.{Occurs}
 use Rattle.book.specs.Book.{Book, Rule, symbols}

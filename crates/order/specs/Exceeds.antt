@@ -1,6 +1,6 @@
 -- The order: when a term exceeds another, over any relation `above` on the symbols.
 use Rattle.std.specs.Prelude.{ℕ, ◌≡◌}
-use Rattle.term.specs.Term.{Term, Args, var, app, nil, cons, count}
+use Rattle.term.specs.Term.{Term, Args, app, nil, cons, count}
 
 mutual
   -- "A term s exceeds t when s = f(s1..sm) and one of these holds".

@@ -14,11 +14,11 @@ use Rattle.reply.proofs.Tests.{passed}
 use Rattle.reply.proofs.Given.{refused_not_given, bind_given, unless_given}
 use Rattle.reply.proofs.Every.{Every, every_member}
 use Rattle.text.specs.Text.{ascii}
-use Rattle.clauses.specs.Cnf.{Literal, is, Assignment, variable_of}
+use Rattle.clauses.specs.Cnf.{Literal, Assignment, variable_of}
 use Rattle.clauses.specs.Item.{Item, closing, literal, faulty, item}
 use Rattle.answer_lines.specs.Values.{Values, unclosed, closed, names, named, item_after, items_after}
 use Rattle.answer_lines.specs.Values.{valued}
-use Rattle.printed_answer.specs.WellFormed.{Spaced, literal_text, spaces, item_text, spaced_text, times_named, Names}
+use Rattle.printed_answer.specs.WellFormed.{Spaced, literal_text, item_text, spaced_text, times_named, Names}
 use Rattle.printed_answer.proofs.Spaces.{Gap, gap_text}
 use Rattle.printed_answer.proofs.NumberBack.{closing_back, literal_text_back}
 use Rattle.printed_answer.proofs.NamesRead.{named_here, named_elsewhere, valued_elsewhere, valued_moved, member_valued, valued_member}

@@ -3,15 +3,15 @@ use Prim.Native.Nat.{ℕ}
 use mathlib.Core.Path.{◌≡◌, refl}
 use mathlib.Core.List.{List, [], ◌∷◌, ◌++◌, flatten}
 use mathlib.Core.Option.{none, some}
-use lib.ListN.{length, replicate}
-use Rattle.reply.specs.Reply.{Reply, Attempt, given, refused, ◌at◌, ◌>>=◌}
+use lib.ListN.{replicate}
+use Rattle.reply.specs.Reply.{Reply, given, refused, ◌at◌, ◌>>=◌}
 use Rattle.reply.specs.Lent.{laid}
-use Rattle.term.specs.Term.{Term, Args, var, app, nil, cons, size}
+use Rattle.term.specs.Term.{app, nil, cons, size}
 use Rattle.book.specs.Examples.{adding}
 use Rattle.record.specs.Examples.{one_and_none}
 use Rattle.steps.specs.NextStep.{next_step}
 use Rattle.steps.specs.Run.{Outcome, done, spent, too_large, Ran, run, ran_bytes}
-use Rattle.steps.specs.Argument.{Part, argument}
+use Rattle.steps.specs.Argument.{argument}
 use Rattle.steps.specs.Computing.{computing}
 
 -- A run's outcome, its steps and the nodes of the term reached.

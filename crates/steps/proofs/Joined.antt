@@ -1,6 +1,6 @@
 -- Argument lists one after another: their bytes, what a replacement makes of them, and where variables occur. A symbol that both sides have is passed
 -- without changing either. Assumes nothing.
-use Prim.Native.Nat.{ℕ, suc}
+use Prim.Native.Nat.{ℕ}
 use mathlib.Core.List.{List, ◌++◌, append_assoc}
 use mathlib.Core.Logic.{◌↔◌, ◌⊎◌, inl, inr, ⊎_elim}
 use mathlib.Core.Path.{◌≡◌, refl, sym, ap, ap₂, ◌∙◌}

@@ -1,6 +1,6 @@
 -- The step is made by the rule and at the place that are taken: in bytes, the rule's right side under the match stands where the subterm
 -- stood. Where nothing is taken, there is no step. Assumes nothing.
-use Prim.Native.Nat.{ℕ, zero, suc, ◌+◌, ◌*◌, ◌-◌, ◌<◌}
+use Prim.Native.Nat.{ℕ, suc, ◌+◌, ◌*◌, ◌-◌, ◌<◌}
 use mathlib.Core.Bool.{Bool, true, false}
 use mathlib.Core.List.{List, [], ◌∷◌, ◌++◌, append_assoc}
 use mathlib.Core.Option.{Option, none, some, map, or_else, map-eq-some_iff, map-eq-none_iff, some-injective}

@@ -5,7 +5,6 @@ use mathlib.Core.List.{List, Memᴰ}
 use mathlib.Core.Logic.{◌↔◌}
 use mathlib.Core.Option.{Option, none, some, map-eq-some_iff, map-eq-none_iff}
 use mathlib.Core.Path.{◌≡◌, refl, sym, ap, ap₂, subst, ◌∙◌}
-use native.Mathlib.Omega.{arith}
 use lib.Dec.{T}
 use Rattle.term.specs.Term.{Term, Args, var, app, nil, cons}
 use Rattle.book.specs.Book.{Rule}

@@ -6,7 +6,7 @@ use mathlib.Core.Path.{◌≡◌, sym, ap, subst, ◌∙◌}
 use native.Mathlib.Omega.{arith}
 use lib.ListN.{length, take}
 use lib.Seq.{take-length}
-use Rattle.reply.specs.Reply.{Attempt, given, refused, told_as}
+use Rattle.reply.specs.Reply.{given, refused, told_as}
 use Rattle.reply.specs.Refusals.{numbered}
 use Rattle.term.specs.Term.{Term, size}
 use Rattle.term.specs.Prefix.{prefix}

@@ -3,7 +3,6 @@ use Prim.Native.Nat.{ℕ, ◌<◌, ◌≤◌}
 use mathlib.Core.List.{List}
 use mathlib.Core.Path.{◌≡◌}
 use borrow.Author.Tests.{le-leb, lt-leb}
-use lib.Dec.{leb}
 use Rattle.reply.specs.Reply.{Refusal, refused, given, unless, ◌>>◌, ◌>>=◌, ◌at◌}
 use Rattle.term.specs.Term.{Term}
 use Rattle.book.specs.Book.{Book}

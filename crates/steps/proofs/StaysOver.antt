@@ -7,7 +7,7 @@ use mathlib.Core.Bool.{Bool, ◌&&◌}
 use mathlib.Core.List.Memᴰ
 use mathlib.Core.List.{List, [], ◌∷◌, Memᴰ}
 use mathlib.Core.Logic.{⊎_elim}
-use mathlib.Core.Path.{◌≡◌, refl, sym, ap, subst, ◌∙◌}
+use mathlib.Core.Path.{◌≡◌, refl, sym, ap, subst}
 use lib.Dec.{T, eqb, ltb}
 use lib.ListN.{length, get_or}
 use Rattle.reply.proofs.Tests.{and_left, and_right, and_both}

@@ -1,5 +1,5 @@
 -- The next step of a record before it is made: the rule that it takes, and the place.
-use Rattle.std.specs.Prelude.{ℕ, suc, ◌+◌, ◌*◌, Bool, true, false, List, [], ◌∷◌}
+use Rattle.std.specs.Prelude.{ℕ, suc, ◌+◌, ◌*◌, true, false, List, [], ◌∷◌}
 use Rattle.std.proofs.Math.Option.{Option, none, some, map, or_else}
 use Rattle.reply.specs.Reply.{Reply, given, ◌>>◌, ◌>>=◌}
 use Rattle.term.specs.Term.{Term, Args, var, app, nil, cons, size}

@@ -1,7 +1,7 @@
 -- The run: document 01's steps against a budget.
-use Rattle.std.specs.Prelude.{ℕ, zero, suc, ◌≤◌, ◌<◌, Bool, true, false, List, ◌≡◌, leb}
-use Rattle.std.proofs.Math.Option.{Option, none, some}
-use Rattle.reply.specs.Reply.{Reply, given, refused, unless, ◌>>◌, ◌>>=◌, ◌at◌}
+use Rattle.std.specs.Prelude.{ℕ, zero, suc, ◌≤◌, ◌<◌, true, false, List, ◌≡◌, leb}
+use Rattle.std.proofs.Math.Option.{none, some}
+use Rattle.reply.specs.Reply.{Reply, given, unless, ◌>>◌, ◌>>=◌, ◌at◌}
 use Rattle.term.specs.Term.{Term, size}
 use Rattle.book.specs.Book.{Book, Rule}
 use Rattle.book.specs.Reading.{read_book}

@@ -1,5 +1,5 @@
 -- A step: chosen freely (a relation), and document 01's own (a function); sequences of free steps.
-use Rattle.std.specs.Prelude.{ℕ, zero, suc, ◌≤◌, Bool, true, false, ◌≡◌, get_or}
+use Rattle.std.specs.Prelude.{ℕ, zero, suc, ◌≤◌, true, false, ◌≡◌, get_or}
 use mathlib.Core.List.{List, [], ◌∷◌, Memᴰ}
 use Rattle.std.proofs.Math.Option.{Option, none, some, map}
 use Rattle.term.specs.Term.{Term, Args, var, app, nil, cons, size}
