@@ -1,10 +1,9 @@
 -- The arguments are passed one by one up to the one that is asked for. Assumes nothing.
 use Prim.Native.Nat.{ℕ, zero, suc, ◌+◌, ◌*◌, ◌-◌, ◌<◌, ◌≤◌}
 use mathlib.Core.List.{List}
-use mathlib.Core.Path.{◌≡◌, refl, sym, ap, ap₂, subst, ◌∙◌}
+use mathlib.Core.Path.{◌≡◌, refl, sym, ap, subst, ◌∙◌}
 use native.Mathlib.Nat.{le_of_suc-le-suc}
 use native.Mathlib.Omega.{arith}
-use lib.ListN.{length}
 use Rattle.reply.specs.Reply.{Reply, given, refused, ◌at◌}
 use Rattle.reply.proofs.Given.{refused_not_given}
 use Rattle.term.specs.Term.{Term, Args, var, app, nil, cons, size, sizes, count}

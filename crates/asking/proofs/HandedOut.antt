@@ -1,13 +1,12 @@
 -- The part that is handed out lies within the record; a refusal hands out none. Assumes nothing.
 use Prim.Native.Nat.{ℕ, ◌+◌, ◌-◌, ◌≤◌}
-use mathlib.Core.List.{List, [], ◌∷◌, ◌++◌}
-use mathlib.Core.Path.{◌≡◌, refl, sym, ap, ◌∙◌}
+use mathlib.Core.List.{List, [], ◌∷◌}
+use mathlib.Core.Path.{◌≡◌, sym, ap, ◌∙◌}
 use native.Mathlib.Omega.{arith}
 use lib.ListN.{length, take, drop, length-append}
-use Rattle.reply.specs.Reply.{Reply, given, refused, ◌>>=◌}
+use Rattle.reply.specs.Reply.{Reply, given, ◌>>=◌}
 use Rattle.reply.specs.declared.Refusal.{Refusal as Named}
 use Rattle.reply.proofs.Given.{bind_given}
-use Rattle.term.specs.Term.{Term, size}
 use Rattle.term.specs.Prefix.{prefix}
 use Rattle.term.proofs.PrefixAt.{prefix_length}
 use Rattle.book.specs.Reading.{read_book}

@@ -1,4 +1,6 @@
 // The argument question: one argument of a record's root, as a part of the caller's own record bytes.
+#![tactic(auto)]
+
 ghost use Rattle.std.specs.Prelude.{◌≡◌, ℕ, ◌+◌};
 ghost use Rattle.term.specs.Term.{Term};
 ghost use Rattle.term.specs.At.{At, Standing};

@@ -9,7 +9,7 @@ use text::wide;
 
 // "A table of 16 places, one for each variable, holds the match": where each variable's term starts in the bytes, and which
 // variables are bound.
-#[derive(Clone, Copy, Drop)]
+#[derive(Clone, Copy)]
 pub struct Match {
     pub fits: bool,
     pub starts: [usize; 16],

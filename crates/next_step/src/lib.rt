@@ -1,4 +1,6 @@
 // The next step of a record before it is made: the rule that it takes, and the place. Who follows a run step by step asks for it.
+#![tactic(auto)]
+
 ghost use Rattle.std.specs.Prelude.{◌≡◌};
 ghost use Rattle.book.specs.Meaning.{book_at};
 ghost use Rattle.book.specs.WasRead.{ReadFrom};

@@ -1,21 +1,21 @@
 -- A record is copied into a working buffer and stands there, and the term that a run reached is laid into the lent buffer with its end
 -- record. Assumes nothing.
-use Prim.Native.Nat.{ℕ, zero, suc, ◌+◌, ◌*◌, ◌-◌, ◌<◌, ◌≤◌}
+use Prim.Native.Nat.{ℕ, suc, ◌+◌, ◌-◌, ◌<◌, ◌≤◌}
 use mathlib.Core.Bool.{Bool, true, false}
 use mathlib.Core.List.{List, [], ◌∷◌, ◌++◌, append_assoc}
-use mathlib.Core.Path.{◌≡◌, refl, sym, ap, ap₂, subst, ◌∙◌}
+use mathlib.Core.Path.{◌≡◌, sym, ap, ◌∙◌}
 use native.Mathlib.Numerals.{add-one}
 use native.Mathlib.Omega.{arith}
-use lib.ListN.{length, get_or, take, drop, set, replicate, length-append, length-replicate}
-use lib.Seq.{drop-cons, set_at, take-take, take-length, length-take-le}
+use lib.ListN.{length, get_or, take, drop, set, length-append}
+use lib.Seq.{drop-cons, set_at, take-take}
 use Rattle.reply.specs.Reply.{Reply, given, ◌>>=◌}
 use Rattle.reply.specs.Lent.{overlaid, laid}
-use Rattle.term.specs.Term.{Term, size}
+use Rattle.term.specs.Term.{Term}
 use Rattle.term.specs.Prefix.{prefix}
 use Rattle.term.specs.At.{At}
 use Rattle.term.specs.Copied.{copied}
 use Rattle.term.proofs.At.{at_end_lem, at_within}
-use Rattle.term.proofs.PrefixAt.{prefix_length, at_prefix, at_over, prefix_at}
+use Rattle.term.proofs.PrefixAt.{prefix_length, at_prefix}
 use Rattle.term.proofs.Copied.{copied_whole}
 use Rattle.book.specs.Book.{Rule}
 use Rattle.record.specs.Record.{record_bytes}
@@ -24,7 +24,6 @@ use Rattle.running.specs.Turns.{held, TermIn, RunTo}
 use Rattle.stepping.specs.Stepped.{outcome_of}
 use Rattle.running.specs.RunMeaning.{Told, told_of, run_told, run_meaning, RunsTo}
 use Rattle.running.specs.declared.Reached.{Reached}
-use Rattle.running.specs.declared.RunReply.{RunReply}
 use Rattle.running.specs.declared.RunReply.TheVariants.{RanTo}
 use Rattle.steps.proofs.Questions.{at_beginning}
 use Rattle.building.proofs.LaidDown.{front_copied}

@@ -1,8 +1,8 @@
 -- A run that is refused, and one that is given under another name. Assumes nothing.
 use Prim.Native.Nat.{ℕ}
 use mathlib.Core.List.{List}
-use mathlib.Core.Path.{◌≡◌, refl, sym, ap, subst, ◌∙◌}
-use Rattle.reply.specs.Reply.{Reply, given, refused, ◌>>=◌}
+use mathlib.Core.Path.{◌≡◌, sym, ap, subst}
+use Rattle.reply.specs.Reply.{Reply, refused, ◌>>=◌}
 use Rattle.reply.specs.Refusals.{numbered}
 use Rattle.reply.specs.Lent.{laid}
 use Rattle.reply.specs.declared.Refusal.{Refusal as Named}

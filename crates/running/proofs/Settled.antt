@@ -1,6 +1,5 @@
 -- Two replies of the run that its contract allows are equal, and so is what they leave in the lent buffer, said of the contract itself: an
 -- answer can be told from what it means. Assumes nothing.
-use Prim.Native.Nat.{ℕ}
 use mathlib.Core.Path.{◌≡◌, refl, sym, ap, ◌∙◌}
 use borrow.Fn.Kinds.{Dens, ended_of}
 use contract.Lifetimes.{Lfts}

@@ -1,12 +1,12 @@
 -- Two buffers that take turns: which of them a term stands in, and what a turn and a run tell of them. A run that goes on has the outcome of
 -- the run that it came from, with the steps made. Assumes nothing.
-use Prim.Native.Nat.{ℕ, zero, suc, ◌+◌, ◌-◌, ◌<◌, ◌≤◌}
+use Prim.Native.Nat.{ℕ, suc, ◌+◌, ◌-◌, ◌<◌, ◌≤◌}
 use mathlib.Core.Bool.{Bool, true, false, not}
 use mathlib.Core.List.{List}
-use mathlib.Core.Path.{◌≡◌, refl, sym, ap, ap₂, subst, ◌∙◌}
+use mathlib.Core.Path.{◌≡◌, refl, sym, ap, subst, ◌∙◌}
 use native.Mathlib.Numerals.{add-one}
 use native.Mathlib.Omega.{arith}
-use lib.Dec.{leb, le→leb, leb→le, T}
+use lib.Dec.{leb, le→leb, leb→le}
 use lib.ListN.{length, take}
 use lib.Seq.{length-take-le}
 use Rattle.reply.proofs.Tests.{is_true, is_false}
@@ -16,13 +16,12 @@ use Rattle.term.proofs.At.{at_end_lem}
 use Rattle.book.specs.Book.{Rule}
 use Rattle.steps.specs.Run.{Means, run_from}
 use Rattle.stepping.specs.Stepped.{NextIn, Tells}
-use Rattle.running.specs.Turns.{held, TermIn, Holding, Turned, RunTo}
+use Rattle.running.specs.Turns.{held, TermIn, Turned, RunTo}
 use Rattle.stepping.specs.Stepped.{outcome_of}
 use Rattle.stepping.specs.declared.Outcome.{Outcome}
 use Rattle.stepping.specs.declared.Outcome.TheVariants.{Done, Spent, TooLarge}
 use Rattle.stepping.specs.declared.Stepped.{Stepped}
 use Rattle.stepping.specs.declared.Stepped.TheVariants.{Ended, Made}
-use Rattle.running.specs.declared.Reached.{Reached}
 use Rattle.steps.proofs.Run.{run_done, run_spent, run_too_large, run_goes_on}
 
 -- The whole of the bytes that a term stands in.

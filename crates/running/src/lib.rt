@@ -1,4 +1,6 @@
 // The run: steps against a budget.
+#![tactic(auto)]
+
 ghost use Rattle.std.specs.Prelude.{◌≤◌, true, length};
 ghost use Rattle.reply.specs.Reply.{given};
 ghost use Rattle.term.specs.Term.{Term};
