@@ -1,8 +1,10 @@
 // The parts of a request, from standard input.
-ghost use Rattle.std.specs.Prelude.{◌≤◌};
-ghost use Rattle.io.specs.Counts.{IsPrefixLen};
+ghost use Rattle.std.specs.Prelude.{◌≤◌, IfOk};
+ghost use Rattle.std.specs.Io.{ReadsAtMost};
+ghost use Rattle.rulebook_pipe.specs.Counts.{IsPrefixLen};
 
-use libc::STDIN_FILENO;
+use std::io;
+use std::io::{ErrorKind, Read};
 
 // How many bytes of a part were laid, and whether all of it came.
 #[derive(Drop)]
@@ -11,36 +13,58 @@ pub struct Part {
     pub whole: bool,
 }
 
+// Reads until `space` is full or the input ends, and answers how many bytes it laid there. A read that a signal interrupts is made again.
+pub fn read_full(input: &mut impl Read, space: &mut [u8]) -> io::Result<usize>
+    ensures { ReadsAtMost result space.new }
+{
+    let mut done = 0;
+    for _ in 0..u64::MAX {
+        if done >= space.len() {
+            break;
+        }
+        match input.read(&mut space[done..]) {
+            Ok(0) => break,
+            Ok(n) => done += n,
+            Err(e) => {
+                if e.kind() != ErrorKind::Interrupted {
+                    return Err(e);
+                }
+            }
+        }
+    }
+    Ok(done)
+}
+
 // Reads at most `most` bytes, and as many as `space` holds, and answers how many it laid there.
-fn read_within(most: usize, space: &mut [u8]) -> usize
-    ensures within { result ≤ most }
-    ensures counts { IsPrefixLen result space.new }
+fn read_within(input: &mut impl Read, most: usize, space: &mut [u8]) -> io::Result<usize>
+    ensures within { IfOk result (λ n. n ≤ most) }
+    ensures counts { ReadsAtMost result space.new }
 {
     if most < space.len() {
-        return io::read_full(STDIN_FILENO, &mut space[..most]);
+        return read_full(input, &mut space[..most]);
     }
-    io::read_full(STDIN_FILENO, space)
+    read_full(input, space)
 }
 
 // Passes over so many bytes, and answers whether they came.
-fn pass_over(length: usize) -> bool {
-    let mut space = io::buffer();
+fn pass_over(input: &mut impl Read, length: usize) -> io::Result<bool> {
+    let mut space = [0u8; 4096];
     let mut left = length;
     while 0 < left {
-        let passed = read_within(left, &mut space);
+        let passed = read_within(input, left, &mut space)?;
         if passed == 0 {
-            return false;
+            return Ok(false);
         }
         left -= passed;
     }
-    true
+    Ok(true)
 }
 
 // Reads the next part, of so many bytes. Its first bytes are laid into `space`, as many as it holds, and the others are passed over.
-pub fn read_part(length: usize, space: &mut [u8]) -> Part
-    ensures { IsPrefixLen result.laid space.new }
+pub fn read_part(input: &mut impl Read, length: usize, space: &mut [u8]) -> io::Result<Part>
+    ensures { IfOk result (λ part. IsPrefixLen part.laid space.new) }
 {
-    let laid = read_within(length, space);
-    let whole = pass_over(length - laid);
-    Part { laid, whole }
+    let laid = read_within(input, length, space)?;
+    let whole = pass_over(input, length - laid)?;
+    Ok(Part { laid, whole })
 }

@@ -2,7 +2,7 @@
 -- law that budgets add up. Assumes nothing.
 use Prim.Native.Nat.{ℕ, zero, suc, ◌+◌, ◌≤◌}
 use mathlib.Core.Bool.{Bool, true, false}
-use mathlib.Core.List.{List, [], ◌∷◌}
+use mathlib.Core.List.{List}
 use mathlib.Core.Option.{Option, none, some}
 use mathlib.Core.Path.{◌≡◌, refl, sym, ap, ap₂, subst, subst₂, ◌∙◌}
 use native.Mathlib.Omega.{arith}
@@ -15,7 +15,7 @@ use Rattle.reply.specs.declared.Refusal.{Refusal as Named}
 use Rattle.reply.specs.Lent.{laid}
 use Rattle.reply.proofs.Given.{refused_not_given, given_not_refused}
 use Rattle.term.specs.Term.{Term, size}
-use Rattle.book.specs.Book.{Book, Rule}
+use Rattle.book.specs.Book.{Rule}
 use Rattle.book.specs.Reading.{read_book}
 use Rattle.record.specs.Record.{record_bytes, read_record}
 use Rattle.order.specs.Clearing.{ranks_clear}

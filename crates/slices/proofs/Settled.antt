@@ -1,11 +1,15 @@
 -- Two replies that the contract of one function allows mean the same, and the buffer then begins with the same record, said of the contract
--- itself. What stands behind that record is the run's working space and is left open. Assumes nothing.
-use Prim.Native.Nat.{ℕ}
-use mathlib.Core.List.{List}
+-- itself, whatever screen tells how far the run is. What stands behind that record is the run's working space and is left open. Assumes
+-- nothing.
 use mathlib.Core.Path.{◌≡◌, sym, ◌∙◌}
 use contract.Lifetimes.{Lfts}
 use borrow.Fn.Kinds.{Dens, ended_of}
+use denote.Param.Laws.{Laws}
+use denote.RattleType.{RattleType}
 use denote.Triple.Clauses.{AtExit}
+use mir.Syntax.{Dict}
+use Rattle.std.specs.declared.io.Print as printing
+use Rattle.std.specs.declared.io.stdio.IsTerminal as terminals
 use lib.ListN.{length, take}
 use Rattle.reply.specs.Reply.{given}
 use Rattle.record.specs.Record.{record_bytes}
@@ -16,9 +20,13 @@ use Rattle.slices.proofs.run.Kinds as run_kinds
 use Rattle.slices.proofs.run.Reads as run_reads
 
 pub run_settled :
-    (κs : Lfts 4) (a : Dens κs run_kinds.ps) (r r' : RunReply) (e e' : AtExit (ended_of 4 run_kinds.ps run_kinds.r) κs) →
-    run_reads.Post κs a r e → run_reads.Post κs a r' e' →
+    (screen : RattleType) (laws : Laws screen) (prints : printing.Ghosts screen.Denot) (print : Dict) (tells : terminals.Ghosts screen.Denot) (tell : Dict) →
+    (κs : Lfts 6) (a : Dens κs (run_kinds.ps screen laws)) (r r' : RunReply) (e e' : AtExit (ended_of 6 (run_kinds.ps screen laws) (run_kinds.r screen laws)) κs) →
+    run_reads.Post screen laws prints print tells tell κs a r e → run_reads.Post screen laws prints print tells tell κs a r' e' →
     (run_meaning r ≡ run_meaning r')
-    × ((ran : Ran) → run a.0.now a.1.0.now a.1.1.0.now a.1.1.1.0 513 ≡ given ran →
-    take (length (record_bytes ran.reached)) e.1.1.1.1.0.now ≡ take (length (record_bytes ran.reached)) e'.1.1.1.1.0.now)
-run_settled κs a r r' e e' p p' = (p.replied ∙ sym p'.replied, λ ran given_so. p.holds ran given_so ∙ sym (p'.holds ran given_so))
+    × ((ran : Ran) → run a.1.0.now a.1.1.0.now a.1.1.1.0.now a.1.1.1.1.0 513 ≡ given ran →
+    take (length (record_bytes ran.reached)) e.1.1.1.1.1.0.now ≡ take (length (record_bytes ran.reached)) e'.1.1.1.1.1.0.now)
+run_settled screen laws prints print tells tell κs a r r' e e' p p' = (
+  p.replied ∙ sym p'.replied,
+  λ ran given_so. p.holds ran given_so ∙ sym (p'.holds ran given_so),
+)

@@ -1,12 +1,14 @@
 // A run in slices of its budget, so that a long one can tell on a terminal how far it is. Budgets add up: the result is that of one run.
+#![tactic(auto)]
+
 ghost use Rattle.std.specs.Prelude.{◌+◌, ◌≤◌, ◌<◌, ◌^◌, min, ◌≡◌, length, take};
 ghost use Rattle.reply.specs.Reply.{given};
 ghost use Rattle.steps.specs.Run.{run};
 ghost use Rattle.running.specs.RunMeaning.{Told, run_meaning};
 ghost use Rattle.slices.specs.Sliced.{OneRun, later_on, told_later, going_of};
 
-use libc::STDERR_FILENO;
 use running::{Outcome, RunReply};
+use std::io::IsTerminal;
 
 // The steps of a slice.
 const SLICE: u64 = 10000;
@@ -85,29 +87,31 @@ fn carry_on(
     after(made, running::run(book, ranks, &record[..laid], slice, out))
 }
 
-// On a terminal alone: how many steps were made and how many nodes the term now has, over the line that told it before.
-fn tell(steps: u64, size: usize) {
-    if libc::isatty(STDERR_FILENO) == 1 {
-        io::write_all(STDERR_FILENO, b"\rsteps ");
-        io::print_decimal(STDERR_FILENO, steps);
-        io::write_all(STDERR_FILENO, b", nodes ");
-        io::print_decimal(STDERR_FILENO, size as u64 / 2);
-        io::write_all(STDERR_FILENO, b"   ");
+// On a terminal alone: how many steps were made and how many nodes the term now has, over the line that told it before. A line that cannot
+// be written is left out: the run does not depend on it.
+fn tell(screen: &(impl Print + IsTerminal), steps: u64, size: usize) {
+    if screen.is_terminal() {
+        let nodes = size / 2;
+        let _ = print!(screen; "\rsteps {steps}, nodes {nodes}   ");
     }
 }
 
 // Clears the line that told it last.
-fn clear() {
-    if libc::isatty(STDERR_FILENO) == 1 {
-        io::write_all(
-            STDERR_FILENO,
-            b"\r                                           \r",
-        );
+fn clear(screen: &(impl Print + IsTerminal)) {
+    if screen.is_terminal() {
+        let _ = print!(screen; "\r                                           \r");
     }
 }
 
 // The slices one after the other, until the budget is used up or the run has ended.
-fn slice_by_slice(book: &[u8], ranks: &[u8], record: &[u8], budget: u64, out: &mut [u8]) -> RunReply
+fn slice_by_slice(
+    screen: &(impl Print + IsTerminal),
+    book: &[u8],
+    ranks: &[u8],
+    record: &[u8],
+    budget: u64,
+    out: &mut [u8],
+) -> RunReply
     requires { length out.old ≡ 513 }
     ensures { OneRun (run book.now ranks.now «record».now budget 513) result out.new }
 {
@@ -119,7 +123,7 @@ fn slice_by_slice(book: &[u8], ranks: &[u8], record: &[u8], budget: u64, out: &m
             return reply;
         };
         if 0 < steps {
-            tell(steps, size);
+            tell(screen, steps, size);
         }
         let slice = least(left, SLICE);
         reply = carry_on(book, ranks, steps, size, slice, out);
@@ -128,12 +132,20 @@ fn slice_by_slice(book: &[u8], ranks: &[u8], record: &[u8], budget: u64, out: &m
     reply
 }
 
-// The run of a record; the buffer then starts with the record of the term that it reached.
-pub fn run(book: &[u8], ranks: &[u8], record: &[u8], budget: u64, out: &mut [u8]) -> RunReply
+// The run of a record; the buffer then starts with the record of the term that it reached. How far it is is told on this screen, if it is a
+// terminal.
+pub fn run(
+    screen: &(impl Print + IsTerminal),
+    book: &[u8],
+    ranks: &[u8],
+    record: &[u8],
+    budget: u64,
+    out: &mut [u8],
+) -> RunReply
     requires { length out.old ≡ 513 }
     ensures { OneRun (run book.now ranks.now «record».now budget 513) result out.new }
 {
-    let reply = slice_by_slice(book, ranks, record, budget, out);
-    clear();
+    let reply = slice_by_slice(screen, book, ranks, record, budget, out);
+    clear(screen);
     reply
 }

@@ -1,6 +1,6 @@
 // The words of a row, parted by single spaces, and what they stand for.
 ghost use Rattle.std.specs.Prelude.{◌≤◌, ◌<◌, length};
-ghost use Rattle.io.specs.Counts.{IsPrefixLen};
+ghost use Rattle.vectors.specs.Counts.{IsPrefixLen};
 
 // The first place from `at` on that holds the byte `mark`; where there is none, the length.
 pub fn next(text: &[u8], at: usize, mark: u8) -> usize

@@ -1,15 +1,18 @@
 // The examples of document 01 that are run, and its edges. The rows stand in the file `stdin`; the file `stdout` shows each with its reply
 // and was written by hand from document 01.
+#![tactic(auto)]
+
 mod calls;
 mod fields;
 mod rows;
 mod show;
 
-use libc::STDIN_FILENO;
+use std::io;
+use std::io::Read;
 
-fn main() {
-    let mut rows = io::large_buffer();
-    let n = io::read_full(STDIN_FILENO, &mut rows);
-    let mut book = io::buffer();
-    rows::show_all(&rows[..n], &mut book);
+fn main(rt: HostRuntime) -> io::Result<()> {
+    let mut rows = Vec::new(rt.alloc());
+    rt.stdin().take(65536).read_to_end(&mut rows)?;
+    let mut book = [0u8; 4096];
+    rows::show_all(&rt, &rows, &mut book)
 }
