@@ -27,8 +27,8 @@ fn least(a: u64, b: u64) -> u64
 }
 
 // Only a spent run goes on.
-fn goes_on(reply: RunReply) -> Going
-    ensures { result ≡ going_of reply }
+fn goes_on(reply: &RunReply) -> Going
+    ensures { result ≡ going_of reply.now }
 {
     let RunReply::RanTo {
         outcome,
@@ -41,8 +41,8 @@ fn goes_on(reply: RunReply) -> Going
     match outcome {
         Outcome::Done => Going::Ended,
         Outcome::Spent => Going::On {
-            steps,
-            size: length,
+            steps: *steps,
+            size: *length,
         },
         Outcome::TooLarge => Going::Ended,
     }
@@ -118,7 +118,7 @@ fn slice_by_slice(
     let mut reply = running::run(book, ranks, record, 0, out);
     let mut left = budget;
     while 0 < left {
-        let state = goes_on(reply);
+        let state = goes_on(&reply);
         let Going::On { steps, size } = state else {
             return reply;
         };
