@@ -1,6 +1,8 @@
 // The clause program: reads a book from standard input and prints all blocks of its clause file, or the one line `refused N at P`.
 #![tactic(auto)]
 
+mod input;
+
 ghost use Rattle.std.specs.Prelude.{◌≡◌, ◌≤◌, length, drop, IfOk};
 ghost use Rattle.book.specs.Meaning.{book_at};
 ghost use Rattle.clauses.specs.File.{file_blocks};
@@ -13,7 +15,6 @@ use book::{Book, BookVerdict};
 use reply::Refusal;
 use reply_lines::write_refused;
 use std::io;
-use std::io::Read;
 
 // Blocks laid into a buffer: how many bytes they have, and the number of the block behind them.
 #[derive(Drop)]
@@ -87,7 +88,7 @@ fn print_for(rt: &impl Print, bytes: &[u8]) -> io::Result<()> {
 // The longest book has 1,345 bytes: 16 symbols of 2, 32 rules of 41 and the end. One byte more is enough of any input: the first 1,346
 // bytes decide what is printed (proofs/LongestBook, `first_bytes_printed`).
 fn main(rt: HostRuntime) -> io::Result<()> {
-    let mut bytes = Vec::new(rt.alloc());
-    rt.stdin().take(1346).read_to_end(&mut bytes)?;
-    print_for(&rt, &bytes)
+    let mut bytes = [0u8; 1346];
+    let length = input::read_full(&mut rt.stdin(), &mut bytes)?;
+    print_for(&rt, &bytes[..length])
 }

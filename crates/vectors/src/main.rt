@@ -4,15 +4,15 @@
 
 mod calls;
 mod fields;
+mod input;
 mod rows;
 mod show;
 
 use std::io;
-use std::io::Read;
 
 fn main(rt: HostRuntime) -> io::Result<()> {
-    let mut rows = Vec::new(rt.alloc());
-    rt.stdin().take(65536).read_to_end(&mut rows)?;
+    let mut rows = [0u8; 65536];
+    let n = input::read_full(&mut rt.stdin(), &mut rows)?;
     let mut book = [0u8; 4096];
-    rows::show_all(&rt, &rows, &mut book)
+    rows::show_all(&rt, &rows[..n], &mut book)
 }
