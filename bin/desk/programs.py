@@ -143,12 +143,11 @@ class Programs:
         if os.path.lexists(built):
             os.remove(built)
         children.run(["sh", "-c", "exec rt run 2>&1"], take=lambda piece: (lines(piece), said(piece))[1], folder=folder)
-        if not lines.proved or not os.access(built, os.X_OK):
-            return False
-        os.makedirs(self.folder, exist_ok=True)
-        shutil.copy(built, self.path(name) + ".part")
-        os.rename(self.path(name) + ".part", self.path(name))
-        return True
+        if os.access(built, os.X_OK):
+            os.makedirs(self.folder, exist_ok=True)
+            shutil.copy(built, self.path(name) + ".part")
+            os.rename(self.path(name) + ".part", self.path(name))
+        return lines.proved
 
     def _kit(self):
         said = children.Output(200)
