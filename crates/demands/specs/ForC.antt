@@ -1,5 +1,5 @@
--- The calls for C: which contract each entry point has, what is asked by what is handed over, what the answered struct says, and what is left in the
--- lent buffer.
+-- The calls for C, the functions of `rulebook`, which `rulebook_c` exports under the same clauses: which contract each entry point has, what is asked
+-- by what is handed over, what the answered struct says, and what is left in the lent buffer.
 use Rattle.std.specs.Prelude.{ℕ, true, false, List, [], ◌∷◌, refl, eqb, length}
 use Rattle.reply.specs.Reply.{Reply, given, refused, ◌at◌}
 use Rattle.steps.specs.Run.{Outcome, done, spent, too_large}

@@ -1,4 +1,4 @@
-// The boundary to C: a thin function for each entry point. include/rulebook.h declares them.
+// The boundary to C: a thin function for each entry point. rulebook_c exports them, and include/rulebook.h declares them.
 #![tactic(auto)]
 
 mod replies;
