@@ -47,10 +47,10 @@ use Rattle.demands.proofs.Each.{no_more, also, each→}
 use Rattle.returning.specs.Returning.{Returns, EndsInCode}
 
 -- A model in which the process may not stop: no contract here lets it.
-abbrev strictly : World → World
+abbrev pub strictly : World → World
 strictly w = record { M = w.M; 𝓤 = w.𝓤; 𝓛 = w.𝓛; 𝓜 = w.𝓜; 𝓡 = strict w.𝓤 w.𝓛.H w.𝓜 w.𝓡 }
 
-returns :
+pub returns :
     (c : Contract) →
     ((w : World) → Wired w.𝓡.env c.code → Meets w.𝓛 c.signature ((strictly w).𝓡.run (w.𝓡.env c.name)) (c.contract w)) →
     Returns c
