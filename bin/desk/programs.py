@@ -137,17 +137,19 @@ class Programs:
         return built
 
     def _build(self, name, said):
-        """Has a program proved, and lays it beside the other. `rt run` runs it too, here on no input."""
+        """Has a program proved, and lays it beside the other; whether that is so. `rt run` runs it too, here on no input. What it says last may be
+        of a library, if it stops before the program: so the program has to be new."""
         folder, lines = os.path.join(self.home, "crates", name), _Lines(self.say)
         built = os.path.join(folder, "out", name)
         if os.path.lexists(built):
             os.remove(built)
         children.run(["sh", "-c", "exec rt run 2>&1"], take=lambda piece: (lines(piece), said(piece))[1], folder=folder)
-        if os.access(built, os.X_OK):
+        is_new = os.access(built, os.X_OK)
+        if is_new:
             os.makedirs(self.folder, exist_ok=True)
             shutil.copy(built, self.path(name) + ".part")
             os.rename(self.path(name) + ".part", self.path(name))
-        return lines.proved
+        return is_new and lines.proved
 
     def _kit(self):
         said = children.Output(200)

@@ -90,6 +90,7 @@ echo "$1 $name" >>"{calls}"
 mkdir -p out && cp "{programs}/$name" out/
 echo 'crate reply: modules loaded=1 checked=0'
 echo 'logic=proved functions=1'
+[ {stops} = no ] || {{ rm -f out/$name; exit 1; }}
 echo "crate $name: modules loaded=0 checked=1"
 [ $name = rulebook_pipe ] && echo 'logic={verdict}' && exit {status}
 echo 'logic=proved functions=1'
@@ -119,11 +120,11 @@ class Clone:
         # older than every program, as an unpacked archive's files are
         os.utime(os.path.join(self.home, "crates", "one", "src", "main.rt"), (1, 1))
 
-    def rt(self, verdict="proved functions=1", status=0):
+    def rt(self, verdict="proved functions=1", status=0, stops="no"):
         path = os.path.join(self.room.outer, "kit", "rt")
         with open(path, "w", encoding="utf-8") as file:
             programs = os.path.join(Room.tried, "target", "bin")
-            file.write("#!/bin/sh\n" + STUB.format(calls=self.calls, programs=programs, verdict=verdict, status=status))
+            file.write("#!/bin/sh\n" + STUB.format(calls=self.calls, programs=programs, verdict=verdict, status=status, stops=stops))
         os.chmod(path, 0o755)
 
     def called(self):
@@ -158,6 +159,12 @@ def building():
         room.expect(0, "symbols f0/0 f1/1 f2/2", "", "show", "addition.book", **clone.with_rt())
         room.expect(0, "symbols f0/0 f1/1 f2/2", "", "show", "addition.book", **clone.without_rt())
         compare("and not again", 3, clone.called())
+        clone.source("fn main() {  }\n")
+        clone.rt(stops="yes")
+        room.expect(2, "", "they are not proved; target/desk/log has what rt said", "show", "addition.book", **clone.with_rt())
+        room.expect(2, "", f"the programs are not known to be built from the sources that stand here, {no_rt}", "show", "addition.book", **clone.without_rt())
+        compare("rt stopped at the first program", 3, clone.called())
+        clone.rt()
         clone.source("fn main() { }\n")
         stale = f"the programs are not known to be built from the sources that stand here, {no_rt}"
         room.expect(2, "", stale, "show", "addition.book", **clone.without_rt())
