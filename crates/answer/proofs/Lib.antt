@@ -1,6 +1,6 @@
 pub mod Cases
-pub mod RanksAgree
 pub mod RankSums
 pub mod PaddedRanks
+pub mod RanksAgree
 pub mod Afterwards
 pub mod Settled

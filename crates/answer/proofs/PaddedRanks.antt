@@ -1,11 +1,10 @@
 -- Ranks in an array of 16: laid there symbol by symbol, and the zeros behind them change no rank. Assumes nothing.
-use Prim.Native.Nat.{ℕ, zero, suc, ◌+◌, ◌-◌, ◌*◌, ◌≤◌, ◌<◌}
+use Prim.Native.Nat.{ℕ, zero, suc, ◌+◌, ◌-◌, ◌≤◌, ◌<◌}
 use mathlib.Core.List.{List, [], ◌∷◌, ◌++◌, map, append_assoc}
 use mathlib.Core.Path.{◌≡◌, refl, sym, ap, ◌∙◌}
 use native.Mathlib.Numerals.{add-one}
-use native.Mathlib.Nat.{suc-mul, mul-le-mul_right}
 use native.Mathlib.Omega.{arith}
-use lib.ListN.{length, get_or, set, replicate, length-map}
+use lib.ListN.{length, get_or, set, replicate, length-map, length-append, length-replicate}
 use lib.Seq.{set_at}
 use Rattle.order.specs.SameRanks.{SameRanks}
 use Rattle.clauses.specs.Cnf.{Assignment}
@@ -51,12 +50,9 @@ module _ (k : ℕ) (α : Assignment) where
           ∙ append_assoc (ranks_of f k α) (rank_below k α (0 + f) k ∷ []) rest
           ∙ ap (λ (n : ℕ). ranks_of f k α ++ n ∷ rest) last
 
-  pub all_ranks : (n f : ℕ) (ranks : List ℕ) → f ≤ n → n ≤ f → ranks ≡ padded_ranks f k α → ranks ≡ padded_ranks n k α
-  all_ranks n f ranks h h' e = e ∙ ap (λ (m : ℕ). padded_ranks m k α) (omega arith)
-
--- The bits of one symbol stand before those of the next.
-pub bits_within : (n k f : ℕ) → f < n → n * k ≤ 64 → f * k + k ≤ 64
-bits_within n k f h room = omega (arith, mul-le-mul_right k h, suc-mul f k)
+  pub length_padded : (n : ℕ) {ranks : List ℕ} → n ≤ 16 → ranks ≡ padded_ranks n k α → length ranks ≡ 16
+  unfolding padded_ranks
+  length_padded n h e = ap length e ∙ simp (length-append, length-replicate, length_ranks_of) (omega arith)
 
 -- Zeros behind the ranks change no rank: a symbol without one counts as one of rank 0.
 zeros : (m i : ℕ) → ◌≡◌ {A = ℕ} (get_or (replicate m 0) i 0) 0

@@ -1,31 +1,19 @@
 -- Two replies that the contract of `ranks_from_answer` allows are equal, and so is what they leave in the lent buffer, said of the
 -- contract itself: an answer can be told from what it means. Assumes nothing.
 use Prim.Native.Nat.{ℕ}
-use mathlib.Core.Path.{◌≡◌, sym, ap, ◌∙◌}
-use native.Mathlib.Omega.{arith}
+use mathlib.Core.Path.{◌≡◌, sym, ◌∙◌}
 use contract.Lifetimes.{Lfts}
 use borrow.Fn.Kinds.{Dens, ended_of}
 use denote.Triple.Clauses.{AtExit}
-use Rattle.reply.specs.Refusals.{numbered}
 use Rattle.reply.specs.declared.Refusal.{Refusal as Named}
-use Rattle.reply.proofs.Refusals.{numbered_apart}
-use Rattle.answer.specs.Answered.{answered_meaning}
-use Rattle.answer.specs.declared.Answered.{Answered}
-use Rattle.answer.specs.declared.Answered.TheVariants.{Accepted, Refused}
+use Rattle.std.specs.Prelude.{Result}
+use Rattle.reply.proofs.Replied.{replied_apart}
 use Rattle.answer.proofs.ranks_from_answer.Kinds as ranks_from_answer_kinds
 use Rattle.answer.proofs.ranks_from_answer.Reads as ranks_from_answer
 
-answers_apart : (a b : Answered) → answered_meaning a ≡ answered_meaning b → a ≡ b
-unfolding answered_meaning
-answers_apart (Accepted n) (Accepted m) e = cc
-answers_apart (Accepted n) (Refused why) e = absurd (let z : ◌≡◌ {A = ℕ} 0 1 = cc in omega arith)
-answers_apart (Refused why) (Accepted n) e = absurd (let z : ◌≡◌ {A = ℕ} 0 1 = cc in omega arith)
-answers_apart (Refused why) (Refused other) e =
-    let same : numbered why ≡ numbered other = cc in ap (λ (r : Named). Refused r) (numbered_apart why other same)
-
 -- Ranks from an answer: the answer, and the lent buffer's last content.
 pub ranks_from_answer_settled :
-    (κs : Lfts 3) (a : Dens κs ranks_from_answer_kinds.ps) (r r' : Answered)
+    (κs : Lfts 3) (a : Dens κs ranks_from_answer_kinds.ps) (r r' : Result ℕ Named)
     (e e' : AtExit (ended_of 3 ranks_from_answer_kinds.ps ranks_from_answer_kinds.r) κs) →
     ranks_from_answer.Post κs a r e → ranks_from_answer.Post κs a r' e' → (r ≡ r') × (e.1.1.0.now ≡ e'.1.1.0.now)
-ranks_from_answer_settled κs a r r' e e' p p' = (answers_apart r r' (p.0 ∙ sym p'.0), p.1 ∙ sym p'.1)
+ranks_from_answer_settled κs a r r' e e' p p' = (replied_apart r r' (p.0 ∙ sym p'.0), p.1 ∙ sym p'.1)

@@ -2,8 +2,7 @@
 use Rattle.answer_lines.specs.Computing
 use Rattle.answer.specs.Ranks.{ranks_checked, answered, ranks_from_answer}
 use Rattle.answer.specs.PaddedRanks.{padded_ranks}
-use Rattle.answer.specs.Answered.{answered_meaning}
 
 unfoldable pub computing : Unit {0}
-unfolding Computing.computing ranks_checked answered ranks_from_answer padded_ranks answered_meaning
+unfolding Computing.computing ranks_checked answered ranks_from_answer padded_ranks
 computing = tt

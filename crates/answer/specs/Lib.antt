@@ -1,4 +1,3 @@
 pub mod Ranks
 pub mod PaddedRanks
-pub mod Answered
 pub mod Computing

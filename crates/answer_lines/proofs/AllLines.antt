@@ -2,11 +2,13 @@
 -- Assumes nothing.
 use Prim.Native.Nat.{ℕ, ◌+◌, ◌-◌, ◌≤◌, ◌<◌}
 use mathlib.Core.List.{List, ◌∷◌}
-use mathlib.Core.Path.{◌≡◌, refl, sym, ap, subst, ◌∙◌}
+use mathlib.Core.Path.{◌≡◌, refl, sym, ap, ◌∙◌}
 use native.Mathlib.Omega.{arith}
 use lib.Dec.{eqb}
 use lib.ListN.{length, take, drop, replicate, length-drop, drop_of_length-le}
 use lib.Seq.{length-take-le}
+use Rattle.std.specs.Prelude.{Bool, Option, None, Result, Ok, Err}
+use Rattle.std.specs.Result.{result_or}
 use Rattle.reply.specs.Reply.{Refusal, Reply, given, refused, ◌>>=◌, ◌at◌}
 use Rattle.reply.specs.Refusals.{numbered}
 use Rattle.reply.specs.declared.Refusal.{Refusal as Named}
@@ -17,40 +19,27 @@ use Rattle.answer_lines.specs.Values.{unclosed, closed}
 use Rattle.answer_lines.specs.Lines.{Said, nothing, satisfied, no_model, line_of, line_after, lines_after, whole, read_answer}
 use Rattle.answer_lines.specs.Marks.{table_of}
 use Rattle.answer_lines.specs.Progress.{HoldsSaid, Tells}
-use Rattle.answer_lines.specs.AnswerRead.{ReadAs, refused_read}
-use Rattle.answer_lines.specs.declared.AnswerRead.{AnswerRead}
-use Rattle.answer_lines.specs.declared.values.Stage.{Stage}
-use Rattle.answer_lines.specs.declared.values.Stage.TheVariants.{Silent, Closed, NoModel, Faulty}
+use Rattle.answer_lines.specs.declared.reader.Stage.{Stage}
+use Rattle.answer_lines.specs.declared.reader.Stage.TheVariants.{Silent, Closed, NoModel}
+use Rattle.answer_lines.specs.declared.reader.BadLine.{BadLine}
 use Rattle.words.proofs.Pieces.{next_within, piece_at}
 use Rattle.answer_lines.proofs.Marks.{no_marks}
 
--- A refusal with an empty table is read as one.
-pub refused_read_lem :
-    (reply : Reply (List Literal)) (why : Named) (r : AnswerRead) → r ≡ refused_read why → reply ≡ refused (numbered why) →
-    ReadAs reply r.verdict r.table
-refused_read_lem reply why r e so = subst (λ (x : AnswerRead). ReadAs reply x.verdict x.table) (sym e) (so, no_marks)
-
-no_stage_is_faulty : (said : Said) (stage : Stage) (table : List ℕ) → HoldsSaid said stage table → stage ≡ Faulty → ⊥
-no_stage_is_faulty nothing stage table h e = let z : ◌≡◌ {A = ℕ} 0 1 = cc in omega arith
-no_stage_is_faulty (satisfied (unclosed ls)) stage table h e = let z : ◌≡◌ {A = ℕ} 0 1 = cc in omega arith
-no_stage_is_faulty (satisfied (closed ls)) stage table h e = let z : ◌≡◌ {A = ℕ} 0 1 = cc in omega arith
-no_stage_is_faulty no_model stage table h e = let z : ◌≡◌ {A = ℕ} 0 1 = cc in omega arith
-
 -- Where all lines were read, the stage tells what is left to say.
-module _ (len : ℕ) (stage : Stage) (table : List ℕ) where
+module _ (len : ℕ) (stage : Stage) (table : List (Option Bool)) where
   whole_closed :
       (said : Said) → HoldsSaid said stage table → stage ≡ Closed → (ls : List Literal) × (whole len said ≡ given ls) × (table ≡ table_of ls)
   unfolding whole
-  whole_closed nothing h e = absurd (let z : ◌≡◌ {A = ℕ} 0 1 = cc in omega arith)
-  whole_closed (satisfied (unclosed ls)) h e = absurd (let z : ◌≡◌ {A = ℕ} 0 1 = cc in omega arith)
+  whole_closed nothing h e = cc
+  whole_closed (satisfied (unclosed ls)) h e = cc
   whole_closed (satisfied (closed ls)) h e = (ls, refl, h.1)
-  whole_closed no_model h e = absurd (let z : ◌≡◌ {A = ℕ} 0 1 = cc in omega arith)
+  whole_closed no_model h e = cc
 
   whole_no_model : (said : Said) → HoldsSaid said stage table → stage ≡ NoModel → whole len said ≡ refused (numbered Refusals.NoModel)
   unfolding whole numbered
-  whole_no_model nothing h e = absurd (let z : ◌≡◌ {A = ℕ} 0 1 = cc in omega arith)
-  whole_no_model (satisfied (unclosed ls)) h e = absurd (let z : ◌≡◌ {A = ℕ} 0 1 = cc in omega arith)
-  whole_no_model (satisfied (closed ls)) h e = absurd (let z : ◌≡◌ {A = ℕ} 0 1 = cc in omega arith)
+  whole_no_model nothing h e = cc
+  whole_no_model (satisfied (unclosed ls)) h e = cc
+  whole_no_model (satisfied (closed ls)) h e = cc
   whole_no_model no_model h e = refl
 
   whole_missing :
@@ -64,14 +53,14 @@ module _ (len : ℕ) (stage : Stage) (table : List ℕ) where
 
 module _ (text : List ℕ) (variables rank_variables : ℕ) where
   -- From place p on, the stage and the table hold what was said before.
-  pub record From (stage : Stage) (table : List ℕ) (p : ℕ) : Type 0 where
+  pub record From (stage : Stage) (table : List (Option Bool)) (p : ℕ) : Type 0 where
     pub said : Said
     pub holds : HoldsSaid said stage table
     pub rest :
         lines_after variables rank_variables p said (pieces newline (drop p text))
         ≡ lines_after variables rank_variables 0 nothing (pieces newline text)
 
-  pub at_first : From Silent (replicate 64 0) 0
+  pub at_first : From Silent (replicate 64 None) 0
   at_first = record { said = nothing; holds = (refl, no_marks); rest = refl }
 
   lines_on : (p : ℕ) (said : Said) (line : List ℕ) (lines : List (List ℕ)) (q : ℕ) → p + length line + 1 ≡ q →
@@ -80,7 +69,7 @@ module _ (text : List ℕ) (variables rank_variables : ℕ) where
   unfolding lines_after
   lines_on p said line lines q e = rw e refl
 
-  module _ {stage : Stage} {table : List ℕ} {p : ℕ} (f : From stage table p) where
+  module _ {stage : Stage} {table : List (Option Bool)} {p : ℕ} (f : From stage table p) where
     module _ (end : ℕ) (here : p < length text) (next : end ≡ p + up_to (λ b. eqb b 10) (drop p text)) where
       long : p + length (take (end - p) (drop p text)) + 1 ≡ end + 1
       long = omega (arith, length-take-le (end - p) (drop p text) (omega (arith, length-drop p text, within)))
@@ -99,34 +88,61 @@ module _ (text : List ℕ) (variables rank_variables : ℕ) where
           ∙ f.rest
 
       -- The line was taken, or it is the first faulty one.
-      module _ (stage' : Stage) (table' : List ℕ) where
+      module _ (stage' : Stage) (table' : List (Option Bool)) where
         pub line_on :
-            Tells HoldsSaid (13 at p) (line_after (13 at p) variables rank_variables f.said (line_of (take (end - p) (drop p text)))) stage' table' →
-            (stage' ≡ Faulty → ⊥) → From stage' table' (end + 1)
+            (u : Unit {0}) →
+            Tells HoldsSaid (13 at p) (line_after (13 at p) variables rank_variables f.said (line_of (take (end - p) (drop p text)))) (Ok u) stage' table' →
+            From stage' table' (end + 1)
         unfolding ◌>>=◌
-        line_on t d = go (line_after (13 at p) variables rank_variables f.said (line_of (take (end - p) (drop p text)))) t one_line
+        line_on u t = go (line_after (13 at p) variables rank_variables f.said (line_of (take (end - p) (drop p text)))) t one_line
           where
             go :
-                (x : Reply Said) → Tells HoldsSaid (13 at p) x stage' table' →
+                (x : Reply Said) → Tells HoldsSaid (13 at p) x (Ok u) stage' table' →
                 ◌>>=◌ x (λ said'. lines_after variables rank_variables (end + 1) said' (pieces newline (drop (end + 1) text)))
                 ≡ lines_after variables rank_variables 0 nothing (pieces newline text) →
                 From stage' table' (end + 1)
             go (given said) t e = record { said = said; holds = t; rest = e }
-            go (refused r) t e = absurd (d t.0)
+            go (refused r) t e = absurd t
 
-        pub line_faulty :
-            Tells HoldsSaid (13 at p) (line_after (13 at p) variables rank_variables f.said (line_of (take (end - p) (drop p text)))) stage' table' →
-            stage' ≡ Faulty → read_answer variables rank_variables text ≡ refused (numbered (Refusals.BadAnswer p))
+        pub line_bad :
+            (bad : BadLine) →
+            Tells HoldsSaid (13 at p) (line_after (13 at p) variables rank_variables f.said (line_of (take (end - p) (drop p text)))) (Err bad) stage' table' →
+            read_answer variables rank_variables text ≡ refused (numbered (Refusals.BadAnswer p))
         unfolding ◌>>=◌ read_answer numbered
-        line_faulty t faulty = go (line_after (13 at p) variables rank_variables f.said (line_of (take (end - p) (drop p text)))) t one_line
+        line_bad bad t = go (line_after (13 at p) variables rank_variables f.said (line_of (take (end - p) (drop p text)))) t one_line
           where
             go :
-                (x : Reply Said) → Tells HoldsSaid (13 at p) x stage' table' →
+                (x : Reply Said) → Tells HoldsSaid (13 at p) x (Err bad) stage' table' →
                 ◌>>=◌ x (λ said'. lines_after variables rank_variables (end + 1) said' (pieces newline (drop (end + 1) text)))
                 ≡ lines_after variables rank_variables 0 nothing (pieces newline text) →
                 read_answer variables rank_variables text ≡ refused (numbered (Refusals.BadAnswer p))
-            go (given said) t e = absurd (no_stage_is_faulty said stage' table' t faulty)
-            go (refused r) t e = ap (λ (x : Reply Said). ◌>>=◌ x (whole (length text))) (sym e) ∙ ap (λ (r : Refusal). refused r) t.1
+            go (given said) t e = absurd t
+            go (refused r) t e = ap (λ (x : Reply Said). ◌>>=◌ x (whole (length text))) (sym e) ∙ ap (λ (r : Refusal). refused r) t
+
+        -- The same, by what the code does with the line's answer.
+        module _ (r : Result (Unit {0}) BadLine)
+            (t : Tells HoldsSaid (13 at p) (line_after (13 at p) variables rank_variables f.said (line_of (take (end - p) (drop p text)))) r stage' table') where
+          pub line_taken : (u : Unit {0}) → Ok u ≡ result_or r (Err (Refusals.BadAnswer p)) → From stage' table' (end + 1)
+          line_taken u e = go r e t
+            where
+              go :
+                  (r : Result (Unit {0}) BadLine) → Ok u ≡ result_or r (Err (Refusals.BadAnswer p)) →
+                  Tells HoldsSaid (13 at p) (line_after (13 at p) variables rank_variables f.said (line_of (take (end - p) (drop p text)))) r stage' table' →
+                  From stage' table' (end + 1)
+              go (Ok v) e t = line_on v t
+              go (Err bad) e t = cc
+
+          pub line_refused :
+              (why : Named) → Err why ≡ result_or r (Err (Refusals.BadAnswer p)) →
+              read_answer variables rank_variables text ≡ refused (numbered why)
+          line_refused why e = go r e t
+            where
+              go :
+                  (r : Result (Unit {0}) BadLine) → Err why ≡ result_or r (Err (Refusals.BadAnswer p)) →
+                  Tells HoldsSaid (13 at p) (line_after (13 at p) variables rank_variables f.said (line_of (take (end - p) (drop p text)))) r stage' table' →
+                  read_answer variables rank_variables text ≡ refused (numbered why)
+              go (Ok v) e t = cc
+              go (Err bad) e t = let same : Refusals.BadAnswer p ≡ why = cc in line_bad bad t ∙ ap (λ (x : Named). refused (numbered x)) same
 
     -- No line is left.
     all_read : length text ≤ p → read_answer variables rank_variables text ≡ whole (length text) f.said

@@ -1,6 +1,5 @@
 pub mod Marks
 pub mod Naming
-pub mod Stages
 pub mod OneWord
 pub mod ValueLine
 pub mod OneLine

@@ -1,5 +1,5 @@
 -- What a line is, by its first bytes. Assumes nothing.
-use Prim.Native.Nat.{ℕ, suc, ◌-◌}
+use Prim.Native.Nat.{ℕ, suc, ◌-◌, ◌<◌}
 use mathlib.Core.Bool.{true, false}
 use mathlib.Core.List.{List, [], ◌∷◌}
 use mathlib.Core.Path.{◌≡◌, refl, sym, ap, ◌∙◌}
@@ -31,40 +31,30 @@ module _ (line : List ℕ) where
       says_nothing e = rw (verdict_line, a, b, e)
 
 -- The bytes behind a v.
-pub values_empty : (bytes : List ℕ) → length bytes ≡ 0 → value_line bytes ≡ no_line
-unfolding value_line
-values_empty [] e = refl
-values_empty (b ∷ bs) e = absurd (omega arith)
-
-pub values_no_space : (bytes : List ℕ) → (get_or bytes 0 0 ≡ 32 → ⊥) → value_line bytes ≡ no_line
+pub values_no_space : (bytes : List ℕ) → (0 < length bytes → get_or bytes 0 0 ≡ 32 → ⊥) → value_line bytes ≡ no_line
 unfolding value_line space
 values_no_space [] d = refl
-values_no_space (b ∷ bs) d = rw (value_line, ne_eqb b 32 d)
+values_no_space (b ∷ bs) d = rw (value_line, ne_eqb b 32 (d (omega arith)))
 
-pub values_items : (bytes : List ℕ) → (length bytes ≡ 0 → ⊥) → get_or bytes 0 0 ≡ 32 → value_line bytes ≡ item_line (words space (take (length bytes - 1) (drop 1 bytes)))
+pub values_items : (bytes : List ℕ) → 0 < length bytes → get_or bytes 0 0 ≡ 32 → value_line bytes ≡ item_line (words space (take (length bytes - 1) (drop 1 bytes)))
 unfolding value_line space
-values_items [] full e = absurd (full refl)
-values_items (b ∷ bs) full e =
+values_items [] some e = absurd (omega arith)
+values_items (b ∷ bs) some e =
     ap (λ (c : ℕ). value_line (c ∷ bs)) e ∙ ap (λ (l : List ℕ). item_line (words space l)) (sym (take_all (suc (length bs) - 1) bs (omega arith)))
 
-pub line_empty : (line : List ℕ) → length line ≡ 0 → line_of line ≡ no_line
-unfolding line_of
-line_empty [] e = refl
-line_empty (b ∷ bs) e = absurd (omega arith)
-
-pub line_comment : (line : List ℕ) → (length line ≡ 0 → ⊥) → get_or line 0 0 ≡ 99 → line_of line ≡ comment
+pub line_comment : (line : List ℕ) → 0 < length line → get_or line 0 0 ≡ 99 → line_of line ≡ comment
 unfolding line_of ascii same_text
-line_comment [] full e = absurd (full refl)
-line_comment (b ∷ bs) full e = ap (λ (c : ℕ). line_of (c ∷ bs)) e
+line_comment [] some e = absurd (omega arith)
+line_comment (b ∷ bs) some e = ap (λ (c : ℕ). line_of (c ∷ bs)) e
 
 pub line_values :
-    (line : List ℕ) → (length line ≡ 0 → ⊥) → get_or line 0 0 ≡ 118 → line_of line ≡ value_line (take (length line - 1) (drop 1 line))
+    (line : List ℕ) → 0 < length line → get_or line 0 0 ≡ 118 → line_of line ≡ value_line (take (length line - 1) (drop 1 line))
 unfolding line_of ascii same_text
-line_values [] full e = absurd (full refl)
-line_values (b ∷ bs) full e = ap (λ (c : ℕ). line_of (c ∷ bs)) e ∙ ap value_line (sym (take_all (suc (length bs) - 1) bs (omega arith)))
+line_values [] some e = absurd (omega arith)
+line_values (b ∷ bs) some e = ap (λ (c : ℕ). line_of (c ∷ bs)) e ∙ ap value_line (sym (take_all (suc (length bs) - 1) bs (omega arith)))
 
 pub line_verdict :
-    (line : List ℕ) → (length line ≡ 0 → ⊥) → (get_or line 0 0 ≡ 99 → ⊥) → (get_or line 0 0 ≡ 118 → ⊥) → line_of line ≡ verdict_line line
-unfolding line_of ascii same_text
-line_verdict [] full c v = absurd (full refl)
-line_verdict (b ∷ bs) full c v = rw (line_of, ne_eqb b 99 c, ne_eqb b 118 v)
+    (line : List ℕ) → (0 < length line → get_or line 0 0 ≡ 99 → ⊥) → (0 < length line → get_or line 0 0 ≡ 118 → ⊥) → line_of line ≡ verdict_line line
+unfolding line_of ascii same_text verdict_line
+line_verdict [] c v = refl
+line_verdict (b ∷ bs) c v = rw (line_of, ne_eqb b 99 (c (omega arith)), ne_eqb b 118 (v (omega arith)))

@@ -1,22 +1,24 @@
 -- The words of a v line, one by one: what is left of them, behind the values so far, tells what the whole line tells. Assumes nothing.
-use Prim.Native.Nat.{ℕ, ◌+◌, ◌-◌, ◌≤◌, ◌<◌}
+use Prim.Native.Nat.{ℕ, ◌+◌, ◌≤◌, ◌<◌}
 use mathlib.Core.Bool.{Bool, true, false}
 use mathlib.Core.List.{List, [], ◌∷◌}
 use mathlib.Core.Path.{◌≡◌, refl, sym, ap, ◌∙◌}
+use native.Mathlib.Numerals.{add-one}
 use native.Mathlib.Omega.{arith}
-use lib.Dec.{eqb}
-use lib.ListN.{length, take, drop, drop_of_length-le}
-use Rattle.text.specs.Text.{pieces, space, nonempty, words, up_to}
+use lib.ListN.{length, get_or, drop, drop_of_length-le}
+use lib.Seq.{drop-cons}
+use Rattle.std.specs.Prelude.{Option, Ok, Err}
+use Rattle.std.specs.List.{list_all}
 use Rattle.reply.specs.Reply.{Refusal, Reply, given, refused, ◌>>=◌}
+use Rattle.text.specs.Text.{space, words}
 use Rattle.clauses.specs.Cnf.{Literal}
 use Rattle.clauses.specs.Item.{item}
+use Rattle.words.proofs.Parts.{no_words, some_word}
 use Rattle.answer_lines.specs.Values.{Values, unclosed, item_after, items_after}
 use Rattle.answer_lines.specs.Lines.{Said, satisfied, item_line, values_after, line_after}
-use Rattle.answer_lines.specs.Marks.{table_of}
-use Rattle.answer_lines.specs.Progress.{HoldsValues, HoldsSaid, Tells, word_after}
-use Rattle.answer_lines.specs.declared.values.Stage.{Stage}
-use Rattle.answer_lines.specs.declared.values.Stage.TheVariants.{Open, Faulty}
-use Rattle.words.proofs.Pieces.{no_word_at, word_at}
+use Rattle.answer_lines.specs.Progress.{HoldsValues, HoldsSaid, Tells}
+use Rattle.answer_lines.specs.declared.reader.Stage.{Stage}
+use Rattle.answer_lines.specs.declared.reader.BadLine.{BadLine}
 
 -- Values, as the lines say them.
 unfoldable said : Reply Values → Reply Said
@@ -24,100 +26,97 @@ said (given vs) = given (satisfied vs)
 said (refused r) = refused r
 
 module _ (fault : Refusal) (variables rank_variables : ℕ) where
-  -- The values behind the words that are left; `found` says whether the line had an item before them.
-  unfoldable pub behind_words : (found : Bool) → Reply Values → (rest : List (List ℕ)) → Reply Values
-  behind_words found (refused r) rest = refused r
-  behind_words true (given vs) rest = items_after fault variables rank_variables vs rest
-  behind_words false (given vs) [] = refused fault
-  behind_words false (given vs) (w ∷ rest) = items_after fault variables rank_variables vs (w ∷ rest)
-
-  items_behind :
-      (x : Reply Values) (rest : List (List ℕ)) → ◌>>=◌ x (λ vs. items_after fault variables rank_variables vs rest) ≡ behind_words true x rest
-  unfolding behind_words ◌>>=◌
-  items_behind (given vs) rest = refl
-  items_behind (refused r) rest = refl
-
-  next_word :
-      (found : Bool) (vs : Reply Values) (w : List ℕ) (rest : List (List ℕ)) →
-      behind_words found vs (w ∷ rest) ≡ behind_words true (word_after fault variables rank_variables vs w) rest
-  unfolding behind_words word_after items_after ◌>>=◌
-  next_word found (refused r) w rest = refl
-  next_word true (given vs) w rest = items_behind (item_after fault rank_variables vs (item variables w)) rest
-  next_word false (given vs) w rest = items_behind (item_after fault rank_variables vs (item variables w)) rest
-
-  said_items :
-      (x : Reply Values) → ◌>>=◌ x (λ vs. given (satisfied vs)) ≡ said x
+  said_items : (x : Reply Values) → ◌>>=◌ x (λ vs. given (satisfied vs)) ≡ said x
   unfolding said ◌>>=◌
   said_items (given vs) = refl
   said_items (refused r) = refl
 
   whole_line :
-      (ls : List Literal) (ws : List (List ℕ)) →
-      line_after fault variables rank_variables (satisfied (unclosed ls)) (item_line ws) ≡ said (behind_words false (given (unclosed ls)) ws)
-  unfolding behind_words line_after item_line values_after said
-  whole_line ls [] = refl
-  whole_line ls (w ∷ ws) = said_items (items_after fault variables rank_variables (unclosed ls) (w ∷ ws))
+      (ls : List Literal) (w : List ℕ) (ws : List (List ℕ)) →
+      line_after fault variables rank_variables (satisfied (unclosed ls)) (item_line (w ∷ ws))
+      ≡ said (items_after fault variables rank_variables (unclosed ls) (w ∷ ws))
+  unfolding line_after item_line values_after
+  whole_line ls w ws = said_items (items_after fault variables rank_variables (unclosed ls) (w ∷ ws))
 
-  -- No word is left.
-  tells_found :
-      (vs : Reply Values) (stage : Stage) (table : List ℕ) → Tells HoldsValues fault vs stage table →
-      Tells HoldsSaid fault (said (behind_words true vs [])) stage table
-  unfolding said behind_words items_after
-  tells_found (given vs) stage table t = t
-  tells_found (refused r) stage table t = t
+  rest_given : (vs : Values) → given vs ≡ items_after fault variables rank_variables vs []
+  unfolding items_after
+  rest_given vs = refl
 
-  tells_none :
-      (vs : Reply Values) (stage : Stage) (table : List ℕ) → Tells HoldsValues fault vs stage table →
-      Tells HoldsSaid fault (said (behind_words false vs [])) Faulty table
-  unfolding said behind_words
-  tells_none (given vs) stage table t = (refl, refl)
-  tells_none (refused r) stage table t = (refl, t.1)
-
-  -- From place `at` of the items on, the stage and the table tell values behind which the line goes on.
-  pub record Behind (items : List ℕ) (ls : List Literal) (found : Bool) (stage : Stage) (table : List ℕ) (at : ℕ) : Type 0 where
-    pub values : Reply Values
-    pub told : Tells HoldsValues fault values stage table
-    pub rest : behind_words found values (words space (drop at items)) ≡ behind_words false (given (unclosed ls)) (words space items)
+  told_at_last :
+      (u : Unit {0}) (stage : Stage) (table : List (Option Bool)) (vs : Values) → HoldsValues vs stage table → (x : Reply Values) → given vs ≡ x →
+      Tells HoldsSaid fault (said x) (Ok u) stage table
+  unfolding said
+  told_at_last u stage table vs held x e = rw (← e) held
 
   module _ (items : List ℕ) (ls : List Literal) where
-    pub at_first : (table : List ℕ) → table ≡ table_of ls → Behind items ls false Open table 0
-    at_first table t = record { values = given (unclosed ls); told = (refl, t); rest = refl }
+    -- "one or more items"
+    pub no_item :
+        (bad : BadLine) (stage : Stage) (table : List (Option Bool)) → list_all space items ≡ true →
+        Tells HoldsSaid fault (line_after fault variables rank_variables (satisfied (unclosed ls)) (item_line (words space items))) (Err bad) stage table
+    unfolding line_after item_line
+    no_item bad stage table e = rw (no_words space items e) refl
 
-    module _ {found : Bool} {stage : Stage} {table : List ℕ} {at : ℕ} (b : Behind items ls found stage table at) where
-      module _ (end : ℕ) (here : at < length items) (next : end ≡ at + up_to (λ b. eqb b 32) (drop at items)) where
-        pub behind_gap : end ≤ at → Behind items ls found stage table (end + 1)
-        unfolding space
-        behind_gap short = record {
-          values = b.values;
-          told = b.told;
-          rest = ap (behind_words found b.values) (sym (no_word_at space items at end here next (omega arith))) ∙ b.rest;
-        }
+    -- Behind the first n words stand values that the stage and the table hold, and the line goes on behind them.
+    pub record Behind (stage : Stage) (table : List (Option Bool)) (n : ℕ) : Type 0 where
+      pub values : Values
+      pub held : HoldsValues values stage table
+      pub rest :
+          items_after fault variables rank_variables values (drop n (words space items))
+          ≡ items_after fault variables rank_variables (unclosed ls) (words space items)
 
-        pub behind_word :
-            at < end → (stage' : Stage) (table' : List ℕ) →
-            Tells HoldsValues fault (word_after fault variables rank_variables b.values (take (end - at) (drop at items))) stage' table' →
-            Behind items ls true stage' table' (end + 1)
-        unfolding space
-        behind_word long stage' table' t = record {
-          values = word_after fault variables rank_variables b.values (take (end - at) (drop at items));
-          told = t;
-          rest =
-              sym (next_word found b.values (take (end - at) (drop at items)) (words space (drop (end + 1) items)))
-              ∙ ap (behind_words found b.values) (sym (word_at space items at end here next long))
-              ∙ b.rest;
-        }
+    pub at_first : (stage : Stage) (table : List (Option Bool)) → HoldsValues (unclosed ls) stage table → Behind stage table 0
+    at_first stage table held = record { values = unclosed ls; held = held; rest = refl }
 
-      all_read : length items ≤ at → line_after fault variables rank_variables (satisfied (unclosed ls)) (item_line (words space items)) ≡ said (behind_words found b.values [])
-      unfolding words nonempty pieces
-      all_read over =
-          whole_line ls (words space items) ∙ ap said (sym b.rest ∙ ap (λ (l : List ℕ). behind_words found b.values (words space l)) (drop_of_length-le items over))
+    module _ (stage : Stage) (table : List (Option Bool)) (n : ℕ) (b : Behind stage table n) where
+      module _ (word : List ℕ) (here : n < length (words space items)) (is : word ≡ get_or (words space items) n word) where
+        one_word :
+            ◌>>=◌ (item_after fault rank_variables b.values (item variables word))
+            (λ vs. items_after fault variables rank_variables vs (drop (n + 1) (words space items)))
+            ≡ items_after fault variables rank_variables (unclosed ls) (words space items)
+        unfolding items_after
+        one_word = ap (items_after fault variables rank_variables b.values) next ∙ b.rest
+          where
+            next : word ∷ drop (n + 1) (words space items) ≡ drop n (words space items)
+            next = rw add-one (rw (← is) at (sym (drop-cons (words space items) n word here)))
 
+        -- The word was taken, or the line is bad.
+        module _ (stage' : Stage) (table' : List (Option Bool)) where
+          pub word_on :
+              (u : Unit {0}) → Tells HoldsValues fault (item_after fault rank_variables b.values (item variables word)) (Ok u) stage' table' →
+              Behind stage' table' (n + 1)
+          unfolding ◌>>=◌
+          word_on u t = go (item_after fault rank_variables b.values (item variables word)) t one_word
+            where
+              go :
+                  (x : Reply Values) → Tells HoldsValues fault x (Ok u) stage' table' →
+                  ◌>>=◌ x (λ vs. items_after fault variables rank_variables vs (drop (n + 1) (words space items)))
+                  ≡ items_after fault variables rank_variables (unclosed ls) (words space items) →
+                  Behind stage' table' (n + 1)
+              go (given vs) t e = record { values = vs; held = t; rest = e }
+              go (refused r) t e = absurd t
+
+          pub word_bad :
+              (bad : BadLine) → Tells HoldsValues fault (item_after fault rank_variables b.values (item variables word)) (Err bad) stage' table' →
+              Tells HoldsSaid fault (line_after fault variables rank_variables (satisfied (unclosed ls)) (item_line (words space items))) (Err bad) stage' table'
+          unfolding ◌>>=◌ said
+          word_bad bad t = go (words space items) here (item_after fault rank_variables b.values (item variables word)) t one_word
+            where
+              go :
+                  (ws : List (List ℕ)) → n < length ws → (x : Reply Values) → Tells HoldsValues fault x (Err bad) stage' table' →
+                  ◌>>=◌ x (λ vs. items_after fault variables rank_variables vs (drop (n + 1) (words space items)))
+                  ≡ items_after fault variables rank_variables (unclosed ls) ws →
+                  Tells HoldsSaid fault (line_after fault variables rank_variables (satisfied (unclosed ls)) (item_line ws)) (Err bad) stage' table'
+              go [] h x t e = absurd (omega arith)
+              go (w ∷ ws) h (given vs) t e = absurd t
+              go (w ∷ ws) h (refused r) t e = rw (whole_line ls w ws, ← e) t
+
+      -- No word is left.
       pub line_told :
-          length items ≤ at → found ≡ true →
-          Tells HoldsSaid fault (line_after fault variables rank_variables (satisfied (unclosed ls)) (item_line (words space items))) stage table
-      line_told over e = rw (all_read over, e) (tells_found b.values stage table b.told)
-
-      pub line_empty :
-          length items ≤ at → found ≡ false →
-          Tells HoldsSaid fault (line_after fault variables rank_variables (satisfied (unclosed ls)) (item_line (words space items))) Faulty table
-      line_empty over e = rw (all_read over, e) (tells_none b.values stage table b.told)
+          (u : Unit {0}) → list_all space items ≡ false → length (words space items) ≤ n →
+          Tells HoldsSaid fault (line_after fault variables rank_variables (satisfied (unclosed ls)) (item_line (words space items))) (Ok u) stage table
+      line_told u some over =
+          let (w, ws, e) = some_word space items some in
+          rw (e, whole_line ls w ws) (told_at_last u stage table b.values b.held (items_after fault variables rank_variables (unclosed ls) (w ∷ ws)) (rw e at last))
+        where
+          last : given b.values ≡ items_after fault variables rank_variables (unclosed ls) (words space items)
+          last = rest_given b.values ∙ ap (items_after fault variables rank_variables b.values) (sym (drop_of_length-le (words space items) over)) ∙ b.rest

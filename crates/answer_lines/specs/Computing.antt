@@ -14,7 +14,6 @@ use Rattle.answer_lines.specs.Lines.{
   read_answer,
 }
 use Rattle.answer_lines.specs.Marks.{mark, table_of, assigned}
-use Rattle.answer_lines.specs.Progress.{word_after}
 
 -- Of reading lines and their values.
 unfoldable pub reading : Unit {0}
@@ -22,5 +21,5 @@ unfolding names named item_after items_after item_line value_line verdict_line l
 reading = tt
 
 unfoldable pub computing : Unit {0}
-unfolding Computing.computing reading valued mark table_of assigned word_after
+unfolding Computing.computing reading valued mark table_of assigned
 computing = tt

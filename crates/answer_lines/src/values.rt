@@ -1,92 +1,117 @@
-// The values of an answer: what its v lines name.
+// The lines of an answer, one by one, and the values that its v lines name.
 ghost use Rattle.std.specs.Prelude.{◌≡◌, List, ◌≤◌};
-ghost use Rattle.reply.specs.Reply.{Refusal, Reply};
+ghost use Rattle.reply.specs.Reply.{Refusal};
 ghost use Rattle.text.specs.Text.{space, words};
 ghost use Rattle.clauses.specs.Cnf.{Literal, variable_of};
-ghost use Rattle.answer_lines.specs.Values.{Values, unclosed, named};
-ghost use Rattle.answer_lines.specs.Lines.{satisfied, item_line, line_after};
-ghost use Rattle.answer_lines.specs.Marks.{table_of, sign};
-ghost use Rattle.answer_lines.specs.Progress.{HoldsValues, HoldsSaid, Tells, word_after};
+ghost use Rattle.clauses.specs.Item.{item};
+ghost use Rattle.answer_lines.specs.Values.{Values, unclosed, named, item_after};
+ghost use Rattle.answer_lines.specs.Lines.{satisfied, item_line, value_line, verdict_line, line_of, line_after};
+ghost use Rattle.answer_lines.specs.Marks.{sign};
+ghost use Rattle.answer_lines.specs.Progress.{HoldsValues, HoldsSaid, Tells, SameCounts, TakesLine};
 
+use crate::reader::{BadLine, Reader, Stage};
 use items::{Item, read_item};
-use words::next;
+use words::same;
 
-// How far the lines have come.
-#[derive(Drop)]
-pub enum Stage {
-    // No s line yet.
-    Silent,
-    // SATISFIABLE, and the values are not closed.
-    Open,
-    Closed,
-    // UNSATISFIABLE or UNKNOWN.
-    NoModel,
-    Faulty,
-}
-
-// "A rank variable (a bit's) may be named once .. Other variables are read for form only."
-fn named(v: usize, mark: u8, rank_variables: usize, table: &mut [u8; 64]) -> Stage
-    requires { (1 ≤ v) × (rank_variables ≤ 64) }
-    ensures { (fault : Refusal) (l : Literal) (ls : List Literal) → variable_of l ≡ v → sign l ≡ mark → table.old ≡ table_of ls →
-        Tells HoldsValues fault (named fault rank_variables l ls) result table.new }
-{
-    if rank_variables < v {
-        return Stage::Open;
-    }
-    let i = v - 1;
-    if table[i] != 0 {
-        return Stage::Faulty;
-    }
-    table[i] = mark;
-    Stage::Open
-}
-
-// "A single 0 closes the values; only spaces and c lines may follow."
-fn word_after(
-    word: &[u8],
-    stage: Stage,
-    variables: usize,
-    rank_variables: usize,
-    table: &mut [u8; 64],
-) -> Stage
-    requires { rank_variables ≤ 64 }
-    ensures { (fault : Refusal) (vs : Reply Values) → Tells HoldsValues fault vs stage table.old →
-        Tells HoldsValues fault (word_after fault variables rank_variables vs word.now) result table.new }
-{
-    let Stage::Open = stage else {
-        return Stage::Faulty;
-    };
-    match read_item(word, variables) {
-        Item::Closing => Stage::Closed,
-        Item::Is(v) => named(v, 1, rank_variables, table),
-        Item::IsNot(v) => named(v, 2, rank_variables, table),
-        Item::Faulty => Stage::Faulty,
-    }
-}
-
-// "one or more items, each after one or more spaces, and perhaps spaces at the end": the bytes behind the v and its first space.
-pub fn items_after(
-    items: &[u8],
-    variables: usize,
-    rank_variables: usize,
-    table: &mut [u8; 64],
-) -> Stage
-    requires { rank_variables ≤ 64 }
-    ensures { (fault : Refusal) (ls : List Literal) → table.old ≡ table_of ls →
-        Tells HoldsSaid fault (line_after fault variables rank_variables (satisfied (unclosed ls)) (item_line (words space items.now)))
-        result table.new }
-{
-    let mut stage = Stage::Open;
-    let mut found = false;
-    let mut at = 0;
-    while at < items.len() {
-        let start = at;
-        let end = next(items, start, b' ');
-        at = end + 1;
-        if start < end {
-            stage = word_after(&items[start..end], stage, variables, rank_variables, table);
-            found = true;
+impl Reader {
+    // "Lines starting with c are passed over .. No other line, empty lines included, is taken."
+    pub fn take_line(&mut self, line: &[u8]) -> Result<(), BadLine>
+        ensures same { SameCounts self.old self.new }
+        ensures told { TakesLine (line_of line.now) self.old result self.new }
+    {
+        match line {
+            [b'c', ..] => Ok(()),
+            [b'v', bytes @ ..] => self.take_values(bytes),
+            _ => self.take_verdict(line),
         }
     }
-    if found { stage } else { Stage::Faulty }
+
+    // "Exactly one line `s SATISFIABLE`, `s UNSATISFIABLE` or `s UNKNOWN`, before any v line."
+    fn take_verdict(&mut self, line: &[u8]) -> Result<(), BadLine>
+        ensures same { SameCounts self.old self.new }
+        ensures told { TakesLine (verdict_line line.now) self.old result self.new }
+    {
+        let Stage::Silent = self.stage else {
+            return Err(BadLine);
+        };
+        self.stage = if same(line, b"s SATISFIABLE") {
+            Stage::Open
+        } else if same(line, b"s UNSATISFIABLE") || same(line, b"s UNKNOWN") {
+            Stage::NoModel
+        } else {
+            return Err(BadLine);
+        };
+        Ok(())
+    }
+
+    // "A v line is v, then one or more items, each after one or more spaces"; "Values stand only after SATISFIABLE": the bytes behind
+    // the v.
+    fn take_values(&mut self, bytes: &[u8]) -> Result<(), BadLine>
+        ensures same { SameCounts self.old self.new }
+        ensures told { TakesLine (value_line bytes.now) self.old result self.new }
+    {
+        let Stage::Open = self.stage else {
+            return Err(BadLine);
+        };
+        match bytes {
+            [b' ', items @ ..] => self.take_items(items),
+            _ => Err(BadLine),
+        }
+    }
+
+    // "one or more items, each after one or more spaces, and perhaps spaces at the end": the bytes behind the v and its first space.
+    fn take_items(&mut self, items: &[u8]) -> Result<(), BadLine>
+        ensures same { SameCounts self.old self.new }
+        ensures told { (fault : Refusal) (ls : List Literal) → HoldsValues (unclosed ls) self.old.stage self.old.table →
+            Tells HoldsSaid fault
+            (line_after fault self.old.variables self.old.rank_variables (satisfied (unclosed ls)) (item_line (words space items.now)))
+            result self.new.stage self.new.table }
+    {
+        if items.iter().all(|&b| b == b' ') {
+            return Err(BadLine);
+        }
+        for word in items.split(|&b| b == b' ').filter(|word| !word.is_empty()) {
+            self.take_word(word)?;
+        }
+        Ok(())
+    }
+
+    // "A single 0 closes the values; only spaces and c lines may follow."
+    fn take_word(&mut self, word: &[u8]) -> Result<(), BadLine>
+        ensures same { SameCounts self.old self.new }
+        ensures told { (fault : Refusal) (vs : Values) → HoldsValues vs self.old.stage self.old.table →
+            Tells HoldsValues fault (item_after fault self.old.rank_variables vs (item self.old.variables word.now))
+            result self.new.stage self.new.table }
+    {
+        let Stage::Open = self.stage else {
+            return Err(BadLine);
+        };
+        match read_item(word, self.variables) {
+            Some(Item::Closing) => {
+                self.stage = Stage::Closed;
+                Ok(())
+            }
+            Some(Item::Is(v)) => self.name(v, true),
+            Some(Item::IsNot(v)) => self.name(v, false),
+            None => Err(BadLine),
+        }
+    }
+
+    // "A rank variable (a bit's) may be named once .. Other variables are read for form only."
+    fn name(&mut self, v: usize, value: bool) -> Result<(), BadLine>
+        requires { 1 ≤ v }
+        ensures same { SameCounts self.old self.new }
+        ensures told { (fault : Refusal) (l : Literal) (ls : List Literal) → variable_of l ≡ v → sign l ≡ value →
+            HoldsValues (unclosed ls) self.old.stage self.old.table →
+            Tells HoldsValues fault (named fault self.old.rank_variables l ls) result self.new.stage self.new.table }
+    {
+        if self.rank_variables < v {
+            return Ok(());
+        }
+        if self.table[v - 1].is_some() {
+            return Err(BadLine);
+        }
+        self.table[v - 1] = Some(value);
+        Ok(())
+    }
 }

@@ -1,3 +1,2 @@
 pub mod RulePlaces
 pub mod Found
-pub mod Written

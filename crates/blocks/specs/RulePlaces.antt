@@ -1,6 +1,7 @@
 -- The rules of a read book at their places.
-use Rattle.std.specs.Prelude.{ℕ, List, get_or}
+use Rattle.std.specs.Prelude.{ℕ, List}
 use Rattle.term.specs.Tables.{rank_bits}
+use Rattle.book.specs.Entries.{places_of}
 use Rattle.book.specs.Meaning.{book_at}
 use Rattle.book.specs.declared.Book.{Book as PlacedBook}
 use Rattle.clauses.specs.Cnf.{Clause}
@@ -15,10 +16,10 @@ placed_rule b base i =
       symbols = b.symbols;
       bits = rank_bits b.symbols;
       base = base;
-      left = get_or b.left_at i 0;
-      height = get_or b.left_nodes i 0;
-      right = get_or b.right_at i 0;
-      width = get_or b.right_nodes i 0;
+      left = (places_of b i).left.at;
+      height = (places_of b i).left.nodes;
+      right = (places_of b i).right.at;
+      width = (places_of b i).right.nodes;
     }
 
 -- The blocks of a read book's rules, behind those of the pairs.

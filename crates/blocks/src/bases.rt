@@ -8,26 +8,25 @@ use book::Book;
 use rule_blocks::PlacedRule;
 
 // Rule i, whose numbers of C and D start at this base.
-pub fn placed_rule(book: Book, base: usize, i: usize) -> PlacedRule
+#[tactic(auto, unfolding(crate::specs::RulePlaces::placed_rule))]
+pub fn placed_rule(book: &Book, base: usize, i: usize) -> PlacedRule
     requires { i < 32 }
-    ensures { result ≡ placed_rule book base i }
+    ensures { result ≡ placed_rule book.now base i }
 {
-    let left_at = book.left_at;
-    let left_nodes = book.left_nodes;
-    let right_at = book.right_at;
-    let right_nodes = book.right_nodes;
+    let places = book.places[i];
     PlacedRule {
         symbols: book.symbols,
         bits: term::rank_bits(book.symbols),
         base,
-        left: left_at[i],
-        height: left_nodes[i],
-        right: right_at[i],
-        width: right_nodes[i],
+        left: places.left.at,
+        height: places.left.nodes,
+        right: places.right.at,
+        width: places.right.nodes,
     }
 }
 
 // "from n²·k on": the base before the first rule.
+#[tactic(auto, unfolding(clauses::specs::Numbering::first_base))]
 pub fn first_base(n: usize) -> usize
     requires { n ≤ 16 }
     ensures { result ≡ first_base n (rank_bits n) }

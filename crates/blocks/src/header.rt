@@ -3,33 +3,33 @@ ghost use mathlib.Core.List.{[], ◌∷◌, ◌++◌, flatten};
 ghost use Rattle.std.specs.Prelude.{◌≡◌, length};
 ghost use Rattle.text.specs.Decimal.{decimal};
 ghost use Rattle.text.specs.Laying.{Lays};
-ghost use Rattle.book.specs.Meaning.{book_at};
-ghost use Rattle.book.specs.WasRead.{ReadFrom};
+ghost use Rattle.book.specs.BookOf.{book_of};
 ghost use Rattle.clauses.specs.Blocks.{blocks};
 ghost use Rattle.clauses.specs.File.{counts_text, header};
 
 use crate::bases::{first_base, placed_rule};
-use book::Book;
+use book::read::ReadBook;
 use counts::variables;
 use numbering::pairs_clauses;
 use rule_blocks::rules::rule_clauses;
+use term::Terms;
 use text::writing::{write_byte, write_decimal, write_text};
 
 // "M the number of clauses that follow".
-fn clause_count(bytes: &[u8], book: Book) -> usize
-    requires { ReadFrom bytes.now book }
-    ensures { result ≡ length (flatten (blocks (book_at bytes.now book))) }
+#[tactic(auto, using(counts::proofs::ReadRules::read_few_symbols, counts::proofs::ReadRules::read_few_rules, crate::proofs::RulesWalk::few_nodes, crate::proofs::RulesWalk::small_base))]
+fn clause_count(book: &ReadBook) -> usize
+    ensures { result ≡ length (flatten (blocks (book_of book.now))) }
 {
-    let rules = book.rules;
-    let arities = book.arities;
-    let mut base = first_base(book.symbols);
-    let mut clauses = pairs_clauses(book.symbols);
-    let mut i = 0;
-    while i < rules {
-        let rule = placed_rule(book, base, i);
-        clauses += rule_clauses(bytes, arities, rule);
+    let terms = Terms {
+        bytes: book.bytes,
+        arities: book.places.arities,
+    };
+    let mut base = first_base(book.places.symbols);
+    let mut clauses = pairs_clauses(book.places.symbols);
+    for i in 0..book.places.rules {
+        let rule = placed_rule(&book.places, base, i);
+        clauses += rule_clauses(&terms, rule);
         base += 2 * (rule.height * rule.width);
-        i += 1;
     }
     clauses
 }
@@ -51,12 +51,11 @@ fn write_counts(variables: usize, clauses: usize, out: &mut [u8]) -> usize
 }
 
 // "Block 0: `p cnf V M` and a newline".
-pub fn write_header(bytes: &[u8], book: Book, out: &mut [u8]) -> usize
-    requires { ReadFrom bytes.now book }
-    ensures { Lays (header (book_at bytes.now book)) out.old result out.new }
+pub fn write_header(book: &ReadBook, out: &mut [u8]) -> usize
+    ensures { Lays (header (book_of book.now)) out.old result out.new }
 {
-    let v = variables(book);
-    let m = clause_count(bytes, book);
+    let v = variables(&book.places);
+    let m = clause_count(book);
     let at = write_text(b"p cnf ", out);
     at + write_counts(v, m, &mut out[at..])
 }

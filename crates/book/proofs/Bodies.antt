@@ -6,8 +6,9 @@ use mathlib.Core.Path.{◌≡◌, refl, ap, ◌∙◌}
 use native.Mathlib.Nat.{add-zero}
 use native.Mathlib.Omega.{arith}
 use lib.Dec.{T}
-use lib.ListN.{length, get_or, take, drop, length-take, length-drop}
+use lib.ListN.{length, get_or, drop, length-take, length-drop}
 use lib.Seq.{get_or-drop, get_or-take}
+use Rattle.std.proofs.lemmas.List.{nil_from_length}
 use Rattle.reply.specs.Reply.{given, unless, ◌>>◌}
 use Rattle.reply.proofs.Given.{unless_given}
 use Rattle.reply.specs.declared.Refusal.TheVariants.{BadBody}
@@ -38,24 +39,21 @@ body_byte bytes p one =
     ∙ get_or-drop (p + 1) bytes 0 0
     ∙ ap (λ (i : ℕ). get_or bytes i 0) (add-zero (p + 1))
 
-take_none : (l : List ℕ) → take 0 l ≡ []
-take_none [] = refl
-take_none (x ∷ l) = refl
+-- A list of one byte.
+pub alone : (l : List ℕ) → length l ≡ 1 → l ≡ get_or l 0 0 ∷ []
+alone [] e = absurd (omega arith)
+alone (x ∷ []) e = refl
+alone (x ∷ y ∷ l) e = absurd (omega arith)
 
 -- A body of so many bytes, as its first byte tells.
 no_byte : (bytes : List ℕ) (p : ℕ) → body_length (get_or bytes p 0) ≡ 0 → body_at bytes p ≡ []
 unfolding body_at
-no_byte bytes p none = ap (λ (n : ℕ). take n (drop (p + 1) bytes)) none ∙ take_none (drop (p + 1) bytes)
+no_byte bytes p none = nil_from_length (body_at bytes p) (omega (arith, length-take (body_length (get_or bytes p 0)) (drop (p + 1) bytes)))
 
 one_byte : (bytes : List ℕ) (p : ℕ) → body_length (get_or bytes p 0) ≡ 1 → 1 ≤ length (body_at bytes p) → body_at bytes p ≡ get_or bytes (p + 1) 0 ∷ []
 unfolding body_at
 one_byte bytes p one some =
-    alone (body_at bytes p) some (length-take (body_length (get_or bytes p 0)) (drop (p + 1) bytes) ∙ omega (arith, length-take (body_length (get_or bytes p 0)) (drop (p + 1) bytes))) ∙ ap (λ (b : ℕ). b ∷ []) (body_byte bytes p one)
-  where
-    alone : (l : List ℕ) → 1 ≤ length l → length l ≡ 1 → l ≡ get_or l 0 0 ∷ []
-    alone [] h e = absurd (omega arith)
-    alone (x ∷ []) h e = refl
-    alone (x ∷ y ∷ l) h e = absurd (omega arith)
+    alone (body_at bytes p) (omega (arith, length-take (body_length (get_or bytes p 0)) (drop (p + 1) bytes))) ∙ ap (λ (b : ℕ). b ∷ []) (body_byte bytes p one)
 
 last_test : {R : Type 0} (t : Bool) (r : R) → ◌>>◌ (unless t r) (given tt) ≡ unless t r
 unfolding unless ◌>>◌

@@ -6,6 +6,7 @@ use mathlib.Core.Path.{◌≡◌, refl, sym, ap, ap₂, subst, ◌∙◌}
 use native.Mathlib.Omega.{arith}
 use lib.Dec.{T, eqb, eqb→eq, leb→le, ltb→lt}
 use lib.ListN.{length, get_or, take, drop, length-take, length-drop, take-append-drop}
+use Rattle.std.proofs.lemmas.List.{nil_from_length}
 use Rattle.reply.specs.Reply.{given}
 use Rattle.reply.specs.declared.Refusal.TheVariants.{BookEnded}
 use Rattle.reply.proofs.Given.{refused_not_given, bind_given, then_given, unless_given_alone, either_given, told_given}
@@ -19,6 +20,7 @@ use Rattle.book.specs.Checks.{known, allowed, body_fits, nothing_more}
 use Rattle.book.specs.Sides.{side_open, no_rule_yet, no_side}
 use Rattle.book.specs.Reading.{Stage, before_rules, in_left, in_right, rule_whole, State, side_of, left_after, right_after, node_at, next, record_at, ended, read_from, start, read_book}
 use Rattle.book.proofs.Tests.{Passed, passed}
+use Rattle.book.proofs.Bodies.{alone}
 use Rattle.book.proofs.KindNumbers.{by_kind}
 use Rattle.book.proofs.Limits.{Kept, StageKept, record_kept, start_kept}
 
@@ -95,21 +97,11 @@ module _ (s : State) where
       ∙ more_of_the_rule s (in_right l m ns) (node_bytes this)
   node_taken_lem rule_whole this k is_open ok = absurd is_open
 
-  -- A body of so many bytes.
-  one_byte : (body : List ℕ) → length body ≡ 1 → body ≡ get_or body 0 0 ∷ []
-  one_byte [] e = absurd (omega arith)
-  one_byte (b ∷ []) e = refl
-  one_byte (b ∷ c ∷ body) e = absurd (omega arith)
-
-  no_byte : (body : List ℕ) → length body ≡ 0 → body ≡ []
-  no_byte [] e = refl
-  no_byte (b ∷ body) e = absurd (omega arith)
-
   symbol_taken : (body : List ℕ) (stage : Stage) → s.stage ≡ stage → StageKept s.arities s.rules stage → T (no_rule_yet (side_of stage).stage) → length body ≡ 1 → taken (next symbol s body) ≡ taken s ++ (1 ∷ body)
   unfolding next no_rule_yet side_of no_side rules_bytes
   symbol_taken body before_rules is k before one =
       let none : s.rules ≡ [] = k in
-      let its : body ≡ get_or body 0 0 ∷ [] = one_byte body one in
+      let its : body ≡ get_or body 0 0 ∷ [] = alone body one in
       let front : taken_at (next symbol s body) before_rules ≡ taken_at s before_rules ++ (1 ∷ body) =
       ap₂ (λ (l : List ℕ) (rs : List Rule). l ++ (rules_bytes rs ++ [])) (symbols_append s.arities (get_or body 0 0)) none
       ∙ append-nil (symbols_bytes s.arities ++ (1 ∷ get_or body 0 0 ∷ []))
@@ -133,7 +125,7 @@ module _ (s : State) where
   unfolding next nodes_bytes
   rule_taken body none_open none =
       ap (λ (b : List ℕ). symbols_bytes s.arities ++ (rules_bytes s.rules ++ b))
-      (ap₂ (λ (a b : List ℕ). a ++ (2 ∷ b)) (sym (nothing_open s.stage none_open)) (sym (no_byte body none)))
+      (ap₂ (λ (a b : List ℕ). a ++ (2 ∷ b)) (sym (nothing_open s.stage none_open)) (sym (nil_from_length body none)))
       ∙ more_of_the_rule s s.stage (2 ∷ body)
 
   next_taken :
@@ -152,11 +144,11 @@ module _ (s : State) where
       (λ is is_known here fits.
       let one : length body ≡ 1 = long ∙ ap body_length is in
       node_taken_lem s.stage (symbolic (get_or body 0 0)) kept.stage here (declared (ltb→lt (get_or body 0 0) (length s.arities) (fits (omega arith))))
-      ∙ ap₂ (λ (n : ℕ) (b : List ℕ). taken s ++ (n ∷ b)) (sym is) (sym (one_byte body one)))
+      ∙ ap₂ (λ (n : ℕ) (b : List ℕ). taken s ++ (n ∷ b)) (sym is) (sym (alone body one)))
       (λ is is_known here fits.
       let one : length body ≡ 1 = long ∙ ap body_length is in
       node_taken_lem s.stage (variable (get_or body 0 0)) kept.stage here (standing (leb→le (get_or body 0 0) 15 (fits (omega arith))))
-      ∙ ap₂ (λ (n : ℕ) (b : List ℕ). taken s ++ (n ∷ b)) (sym is) (sym (one_byte body one)))
+      ∙ ap₂ (λ (n : ℕ) (b : List ℕ). taken s ++ (n ∷ b)) (sym is) (sym (alone body one)))
       (λ is is_known here fits. absurd (subst (λ (n : ℕ). T (not (eqb n 5))) is no_end))
       tests.is_known tests.here tests.fits
 
@@ -174,7 +166,7 @@ at_the_end len p k s bytes book stands is tests e =
     let its : record { arities = s.arities; rules = s.rules } ≡ book =
     ap (λ (n : ℕ). record { arities = (next (kind_of n) s (take (body_length k) bytes)).arities; rules = (next (kind_of n) s (take (body_length k) bytes)).rules }) (sym is) ∙ cc same
     in
-    ap₂ (λ (n : ℕ) (b : List ℕ). taken s ++ (n ∷ b)) is (no_byte s bytes none_left)
+    ap₂ (λ (n : ℕ) (b : List ℕ). taken s ++ (n ∷ b)) is (nil_from_length bytes none_left)
     ∙ sym (more_of_the_rule s s.stage (5 ∷ []))
     ∙ ap (λ (b : List ℕ). symbols_bytes s.arities ++ (rules_bytes s.rules ++ (b ++ (5 ∷ [])))) (nothing_open s s.stage none_open)
     ∙ ap book_bytes its

@@ -2,7 +2,6 @@ pub mod Cases
 pub mod Bodies
 pub mod Tests
 pub mod KindNumbers
-pub mod Nodes
 pub mod Steps
 pub mod Going
 pub mod SideBytes

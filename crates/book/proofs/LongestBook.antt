@@ -10,7 +10,7 @@ use native.Mathlib.Omega.{arith}
 use borrow.Author.Tests.{le-leb, lt-leb, eqb-true}
 use lib.Dec.{T, eqb, leb, eqb_refl, ltb→lt}
 use lib.ListN.{length, get_or, take, drop, length-append, length-take, length-drop}
-use lib.Seq.{take_all, take-take, length-take-le}
+use lib.Seq.{take_all, take-take, take-nil, length-take-le}
 use Rattle.reply.specs.Reply.{Attempt, given, refused, told_as, unless, ◌>>◌, ◌>>=◌}
 use Rattle.reply.specs.Refusals.{numbered}
 use Rattle.reply.specs.declared.Refusal.{Refusal as Named}
@@ -176,14 +176,10 @@ ended_alike : (len len' : ℕ) (s : State) (p : ℕ) → p < len → p < len' �
 unfolding ended nothing_more
 ended_alike len len' s p h h' = rw (lt-leb len p h, lt-leb len' p h')
 
-take_none : (n : ℕ) → take {A = ℕ} n [] ≡ []
-take_none zero = refl
-take_none (suc n) = refl
-
 drop_take : (n i : ℕ) (l : List ℕ) → take (n - i) (drop i l) ≡ drop i (take n l)
 drop_take n zero l = let same : n - 0 ≡ n = omega arith in ap (λ (m : ℕ). take m l) same
 drop_take zero (suc i) l = let none : 0 - suc i ≡ 0 = omega arith in rw none
-drop_take (suc n) (suc i) [] = take_none (suc n - suc i)
+drop_take (suc n) (suc i) [] = take-nil (suc n - suc i)
 drop_take (suc n) (suc i) (x ∷ l) = let same : suc n - suc i ≡ n - i = omega arith in rw same (drop_take n i l)
 
 -- What follows a record of kind k at p, from the bytes behind its kind on.

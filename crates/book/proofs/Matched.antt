@@ -10,29 +10,20 @@ use lib.ListN.{length, get_or, take, set, length-append, length-set}
 use lib.Seq.{get_or-set_same, get_or-set_other, take-suc-set}
 use Rattle.term.specs.Prefix.{tree_at}
 use Rattle.book.specs.Book.{Rule}
-use Rattle.book.specs.Entries.{nothing_read, with_symbol, with_left, with_right, with_rule}
+use Rattle.book.specs.Entries.{nowhere, places_of, nothing_read, placing, with_symbol, with_left, with_right, with_rule}
 use Rattle.book.specs.Meaning.{arities_of, rule_at, rules_before}
 use Rattle.book.specs.declared.Book.{Book as PlacedBook}
+use Rattle.book.specs.declared.RulePlaces.{RulePlaces}
 use Rattle.book.proofs.SideBytes.{SideAt}
 
 -- The arrays' lengths.
 pub record Sized (b : PlacedBook) : Type 0 where
   pub arities : length b.arities ≡ 16
-  pub left_at : length b.left_at ≡ 32
-  pub left_nodes : length b.left_nodes ≡ 32
-  pub right_at : length b.right_at ≡ 32
-  pub right_nodes : length b.right_nodes ≡ 32
+  pub places : length b.places ≡ 32
 
--- What is stored of rule i: the place and the nodes of its left side, then of its right.
-abbrev pub Entry : Type 0
-Entry = ℕ × ℕ × ℕ × ℕ
-
-abbrev pub entry_at : PlacedBook → ℕ → Entry
-entry_at b i = (get_or b.left_at i 0, get_or b.left_nodes i 0, get_or b.right_at i 0, get_or b.right_nodes i 0)
-
-pub record EntryStands (bytes arities : List ℕ) (e : Entry) : Type 0 where
-  pub left : SideAt bytes arities e.0 e.1
-  pub right : SideAt bytes arities e.2 e.3
+pub record EntryStands (bytes arities : List ℕ) (e : RulePlaces) : Type 0 where
+  pub left : SideAt bytes arities e.left.at e.left.nodes
+  pub right : SideAt bytes arities e.right.at e.right.nodes
 
 pub record Matched (bytes arities : List ℕ) (rules : List Rule) (b : PlacedBook) : Type 0 where
   pub sized : Sized b
@@ -40,13 +31,13 @@ pub record Matched (bytes arities : List ℕ) (rules : List Rule) (b : PlacedBoo
   pub declared : arities_of b ≡ arities
   pub rule_count : b.rules ≡ length rules
   pub rules_there : rules_before bytes b b.rules ≡ rules
-  pub stand : (i : ℕ) → i < b.rules → EntryStands bytes arities (entry_at b i)
+  pub stand : (i : ℕ) → i < b.rules → EntryStands bytes arities (places_of b i)
 
 pub nothing_matched : (bytes : List ℕ) → Matched bytes [] [] nothing_read
 unfolding nothing_read arities_of rules_before
 nothing_matched bytes =
     record {
-      sized = record { arities = refl; left_at = refl; left_nodes = refl; right_at = refl; right_nodes = refl };
+      sized = record { arities = refl; places = refl };
       symbol_count = refl;
       declared = refl;
       rule_count = refl;
@@ -55,27 +46,27 @@ nothing_matched bytes =
     }
 
 -- An entry before the one that is stored stays.
-earlier : (l : List ℕ) (n v i : ℕ) → i < n → get_or l i 0 ≡ get_or (set l n v) i 0
-earlier l n v i h = sym (get_or-set_other l n i v 0 (λ e. omega arith))
+earlier : (l : List RulePlaces) (n : ℕ) (v : RulePlaces) (i : ℕ) → i < n → get_or l i nowhere ≡ get_or (set l n v) i nowhere
+earlier l n v i h = sym (get_or-set_other l n i v nowhere (λ e. omega arith))
 
 -- The rule of an entry, and the rules of entries that agree.
-abbrev pub rule_of : (bytes arities : List ℕ) → Entry → Rule
-rule_of bytes arities e = record { left = tree_at bytes arities e.0 e.1; right = tree_at bytes arities e.2 e.3 }
+abbrev pub rule_of : (bytes arities : List ℕ) → RulePlaces → Rule
+rule_of bytes arities e = record { left = tree_at bytes arities e.left.at e.left.nodes; right = tree_at bytes arities e.right.at e.right.nodes }
 
 rules_agree :
-    (bytes : List ℕ) (b b' : PlacedBook) → arities_of b ≡ arities_of b' → (n : ℕ) → ((i : ℕ) → i < n → entry_at b i ≡ entry_at b' i) →
+    (bytes : List ℕ) (b b' : PlacedBook) → arities_of b ≡ arities_of b' → (n : ℕ) → ((i : ℕ) → i < n → places_of b i ≡ places_of b' i) →
     rules_before bytes b n ≡ rules_before bytes b' n
 unfolding rules_before rule_at
 rules_agree bytes b b' same zero agree = refl
 rules_agree bytes b b' same (suc n) agree =
     ap₂ (λ (rs : List Rule) (r : Rule). rs ++ (r ∷ [])) (rules_agree bytes b b' same n (λ i h. agree i (omega arith)))
-    (ap₂ (λ (arities : List ℕ) (e : Entry). rule_of bytes arities e) same (agree n (omega arith)))
+    (ap₂ (λ (arities : List ℕ) (e : RulePlaces). rule_of bytes arities e) same (agree n (omega arith)))
 
 module _ {bytes arities : List ℕ} {rules : List Rule} {b : PlacedBook} (m : Matched bytes arities rules b) where
   -- Other arrays with the same entries below the count of rules.
   matched_again :
       (b' : PlacedBook) → Sized b' → b'.symbols ≡ b.symbols → arities_of b ≡ arities_of b' → b'.rules ≡ b.rules →
-      ((i : ℕ) → i < b.rules → entry_at b i ≡ entry_at b' i) → Matched bytes arities rules b'
+      ((i : ℕ) → i < b.rules → places_of b i ≡ places_of b' i) → Matched bytes arities rules b'
   matched_again b' sized symbols same count agree =
       record {
         sized = sized;
@@ -83,55 +74,37 @@ module _ {bytes arities : List ℕ} {rules : List Rule} {b : PlacedBook} (m : Ma
         declared = sym same ∙ m.declared;
         rule_count = count ∙ m.rule_count;
         rules_there = ap (rules_before bytes b') count ∙ sym (rules_agree bytes b b' same b.rules agree) ∙ m.rules_there;
-        stand = λ i h. subst (λ (e : Entry). EntryStands bytes arities e) (agree i (omega arith)) (m.stand i (omega arith));
+        stand = λ i h. subst (λ (e : RulePlaces). EntryStands bytes arities e) (agree i (omega arith)) (m.stand i (omega arith));
       }
+
+  -- The next rule's places do not concern the rules before it.
+  placing_matched : (its : RulePlaces) → Matched bytes arities rules (placing b its)
+  unfolding arities_of
+  placing_matched its =
+      matched_again (placing b its) (record { arities = m.sized.arities; places = length-set b.places b.rules its ∙ m.sized.places }) refl refl refl
+      (λ i h. earlier b.places b.rules its i h)
 
   -- The next rule's left side starts at u.
   pub left_matched : (u : ℕ) → Matched bytes arities rules (with_left b u)
-  unfolding with_left arities_of
-  left_matched u =
-      matched_again (with_left b u)
-      (record {
-        arities = m.sized.arities;
-        left_at = length-set b.left_at b.rules u ∙ m.sized.left_at;
-        left_nodes = m.sized.left_nodes;
-        right_at = m.sized.right_at;
-        right_nodes = m.sized.right_nodes;
-      })
-      refl refl refl
-      (λ i h. ap (λ (at : ℕ). (at, (entry_at b i).1, (entry_at b i).2, (entry_at b i).3)) (earlier b.left_at b.rules u i h))
+  unfolding with_left
+  left_matched u = placing_matched _
 
   -- Its left side has n nodes, and its right side starts at u.
   pub right_matched : (n u : ℕ) → Matched bytes arities rules (with_right b n u)
-  unfolding with_right arities_of
-  right_matched n u =
-      matched_again (with_right b n u)
-      (record {
-        arities = m.sized.arities;
-        left_at = m.sized.left_at;
-        left_nodes = length-set b.left_nodes b.rules n ∙ m.sized.left_nodes;
-        right_at = length-set b.right_at b.rules u ∙ m.sized.right_at;
-        right_nodes = m.sized.right_nodes;
-      })
-      refl refl refl
-      (λ i h. ap₂ (λ (nodes at : ℕ). ((entry_at b i).0, nodes, at, (entry_at b i).3)) (earlier b.left_nodes b.rules n i h) (earlier b.right_at b.rules u i h))
+  unfolding with_right
+  right_matched n u = placing_matched _
 
   -- Its right side has n nodes: both sides stand, and the rule is one more.
+  abbrev whole : (n : ℕ) → RulePlaces
+  whole n = record { left = (places_of b b.rules).left; right = record { at = (places_of b b.rules).right.at; nodes = n } }
+
   pub rule_matched :
-      (n : ℕ) (r : Rule) → b.rules < 32 → EntryStands bytes arities ((entry_at b b.rules).0, (entry_at b b.rules).1, (entry_at b b.rules).2, n) →
-      rule_of bytes arities ((entry_at b b.rules).0, (entry_at b b.rules).1, (entry_at b b.rules).2, n) ≡ r →
+      (n : ℕ) (r : Rule) → b.rules < 32 → EntryStands bytes arities (whole n) → rule_of bytes arities (whole n) ≡ r →
       Matched bytes arities (rules ++ (r ∷ [])) (with_rule b n)
   unfolding with_rule arities_of rules_before rule_at
   rule_matched n r room both is =
       record {
-        sized =
-            record {
-              arities = m.sized.arities;
-              left_at = m.sized.left_at;
-              left_nodes = m.sized.left_nodes;
-              right_at = m.sized.right_at;
-              right_nodes = length-set b.right_nodes b.rules n ∙ m.sized.right_nodes;
-            };
+        sized = record { arities = m.sized.arities; places = length-set b.places b.rules (whole n) ∙ m.sized.places };
         symbol_count = m.symbol_count;
         declared = m.declared;
         rule_count = simp length-append (omega (arith, m.rule_count));
@@ -139,25 +112,23 @@ module _ {bytes arities : List ℕ} {rules : List Rule} {b : PlacedBook} (m : Ma
             ap (rules_before bytes (with_rule b n)) (add-one b.rules)
             ∙ ap₂ (λ (rs : List Rule) (one : Rule). rs ++ (one ∷ []))
             (sym (rules_agree bytes b (with_rule b n) refl b.rules below) ∙ m.rules_there)
-            (ap₂ (λ (l : List ℕ) (e : Entry). rule_of bytes l e) m.declared last ∙ is);
+            (ap₂ (λ (l : List ℕ) (e : RulePlaces). rule_of bytes l e) m.declared last ∙ is);
         stand = stands;
       }
     where
-      below : (i : ℕ) → i < b.rules → entry_at b i ≡ entry_at (with_rule b n) i
-      below i h = ap (λ (nodes : ℕ). ((entry_at b i).0, (entry_at b i).1, (entry_at b i).2, nodes)) (earlier b.right_nodes b.rules n i h)
+      below : (i : ℕ) → i < b.rules → places_of b i ≡ places_of (with_rule b n) i
+      below i h = earlier b.places b.rules (whole n) i h
 
-      last : entry_at (with_rule b n) b.rules ≡ ((entry_at b b.rules).0, (entry_at b b.rules).1, (entry_at b b.rules).2, n)
-      last =
-          ap (λ (nodes : ℕ). ((entry_at b b.rules).0, (entry_at b b.rules).1, (entry_at b b.rules).2, nodes))
-          (get_or-set_same b.right_nodes b.rules n 0 (omega (arith, m.sized.right_nodes)))
+      last : places_of (with_rule b n) b.rules ≡ whole n
+      last = get_or-set_same b.places b.rules (whole n) nowhere (omega (arith, m.sized.places))
 
-      stands : (i : ℕ) → i < b.rules + 1 → EntryStands bytes arities (entry_at (with_rule b n) i)
+      stands : (i : ℕ) → i < b.rules + 1 → EntryStands bytes arities (places_of (with_rule b n) i)
       stands i h =
           elim (dec_lt i b.rules) [
-            | yes before ↦ subst (λ (e : Entry). EntryStands bytes arities e) (below i before) (m.stand i before)
+            | yes before ↦ subst (λ (e : RulePlaces). EntryStands bytes arities e) (below i before) (m.stand i before)
             | no behind ↦
                 let here : b.rules ≡ i = omega arith in
-                subst (λ (e : Entry). EntryStands bytes arities e) (sym last ∙ ap (entry_at (with_rule b n)) here) both
+                subst (λ (e : RulePlaces). EntryStands bytes arities e) (sym last ∙ ap (places_of (with_rule b n)) here) both
           ]
 
 -- One symbol more, while there is no rule.
@@ -166,14 +137,7 @@ pub symbol_matched :
 unfolding with_symbol arities_of rules_before
 symbol_matched {bytes} {arities} {b} arity m room =
     record {
-      sized =
-          record {
-            arities = length-set b.arities b.symbols arity ∙ m.sized.arities;
-            left_at = m.sized.left_at;
-            left_nodes = m.sized.left_nodes;
-            right_at = m.sized.right_at;
-            right_nodes = m.sized.right_nodes;
-          };
+      sized = record { arities = length-set b.arities b.symbols arity ∙ m.sized.arities; places = m.sized.places };
       symbol_count = simp length-append (omega (arith, m.symbol_count));
       declared =
           ap (λ (n : ℕ). take n (set b.arities b.symbols arity)) (add-one b.symbols)

@@ -13,6 +13,7 @@ use lib.ListN.{length, get_or, drop, drop_of_length-le}
 use lib.Seq.{drop-cons, drop-drop}
 use Rattle.reply.specs.Reply.{Attempt, Reply, given, refused, told_as, ◌>>◌, ◌>>=◌}
 use Rattle.reply.specs.Refusals.{numbered}
+use Rattle.reply.specs.Replied.{result_of, replied_as}
 use Rattle.reply.specs.declared.Refusal.{Refusal as Named}
 use Rattle.term.specs.Tables.{kind_of, body_length}
 use Rattle.book.specs.Book.{Book, Rule}
@@ -20,8 +21,9 @@ use Rattle.book.specs.Checks.{body_at, checked, nothing_more}
 use Rattle.book.specs.Reading as trees
 use Rattle.book.specs.Reading.{State, side_of, read_book}
 use Rattle.book.specs.Placed as places
-use Rattle.book.specs.Placed.{Reader, placed}
-use Rattle.book.specs.Meaning.{book_at, told, meaning}
+use Rattle.book.specs.Placed.{placed}
+use Rattle.book.specs.declared.reader.Reader.{Reader}
+use Rattle.book.specs.Meaning.{book_at, meaning}
 use Rattle.book.specs.declared.Book.{Book as PlacedBook}
 use Rattle.book.proofs.Tests.{passed}
 use Rattle.book.proofs.Steps.{tests_of, behind, next_at, at_end_lem}
@@ -159,8 +161,8 @@ pub alike : (bytes : List ℕ) → Alike bytes (trees.read_from (length bytes) (
 alike bytes = from_alike (length bytes) bytes trees.start places.start 0 (start_simulated bytes)
 
 -- What is alike means the same.
-meant : (bytes : List ℕ) (x : Attempt Named Book) (y : Attempt Named PlacedBook) → Alike bytes x y → meaning bytes (places.answer y) ≡ told_as numbered x
-unfolding meaning told places.answer book_at told_as
+meant : (bytes : List ℕ) (x : Attempt Named Book) (y : Attempt Named PlacedBook) → Alike bytes x y → meaning bytes (result_of y) ≡ told_as numbered x
+unfolding meaning replied_as result_of book_at told_as
 meant bytes (given book) (given b) m =
     ap₂ {C = Reply Book} (λ (arities : List ℕ) (rules : List Rule). given (record { arities = arities; rules = rules })) m.declared m.rules_there
 meant bytes (given book) (refused v) no_way = absurd no_way

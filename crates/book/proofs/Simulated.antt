@@ -5,7 +5,7 @@ use mathlib.Core.List.{List, [], ◌∷◌, ◌++◌}
 use mathlib.Core.Path.{◌≡◌, refl, sym, ap, ap₂, subst, ◌∙◌}
 use native.Mathlib.Omega.{arith}
 use lib.Dec.{T, ltb→lt}
-use lib.ListN.{length, get_or, drop, set, length-append}
+use lib.ListN.{length, get_or, drop, length-append}
 use lib.Seq.{get_or-set_same, get_or-take}
 use Rattle.term.specs.Tables.{Kind, symbol, rule, kind_of, body_length, body_lengths}
 use Rattle.term.specs.Term.{Term}
@@ -13,14 +13,16 @@ use Rattle.term.specs.Prefix.{Node, symbolic, variable, arity_of, tree, tree_at}
 use Rattle.term.proofs.Prefix.{NodeOver, declared, standing, node_bytes}
 use Rattle.book.specs.Book.{Rule}
 use Rattle.book.specs.Checks.{body_at, known, allowed, body_fits, room_left}
-use Rattle.book.specs.Entries.{with_symbol, with_left, with_right}
+use Rattle.book.specs.Entries.{nowhere, places_of, with_symbol, with_left, with_right}
 use Rattle.book.specs.Sides.{side_open, no_rule_yet, left_open, no_side, opened, with_node}
 use Rattle.book.specs.Reading as trees
 use Rattle.book.specs.Reading.{Stage, before_rules, in_left, in_right, rule_whole, State, side_of}
 use Rattle.book.specs.Placed as places
-use Rattle.book.specs.Placed.{Reader, side_whole, side_after, node_taken}
+use Rattle.book.specs.Placed.{side_whole, side_after, behind_node, node_taken}
+use Rattle.book.specs.declared.reader.Reader.{Reader}
 use Rattle.book.specs.Meaning.{arities_of}
 use Rattle.book.specs.declared.Book.{Book as PlacedBook}
+use Rattle.book.specs.declared.RulePlaces.{RulePlaces}
 use Rattle.book.specs.declared.sides.Side.{Side}
 use Rattle.book.specs.declared.sides.Stage.TheVariants.{InLeft, InRight}
 use Rattle.book.proofs.Bodies.{body_whole, body_byte}
@@ -37,14 +39,14 @@ record OpenSide (bytes arities : List ℕ) (b : PlacedBook) (u missing : ℕ) (n
 
 -- The left side of the rule that is being read.
 record LeftWhole (bytes arities : List ℕ) (b : PlacedBook) (left : Term) : Type 0 where
-  stands : SideAt bytes arities (get_or b.left_at b.rules 0) (get_or b.left_nodes b.rules 0)
-  is : tree_at bytes arities (get_or b.left_at b.rules 0) (get_or b.left_nodes b.rules 0) ≡ left
+  stands : SideAt bytes arities (places_of b b.rules).left.at (places_of b b.rules).left.nodes
+  is : tree_at bytes arities (places_of b b.rules).left.at (places_of b b.rules).left.nodes ≡ left
 
 -- What stands in the bytes at each stage.
 abbrev StageMatched : (bytes arities : List ℕ) → List Rule → PlacedBook → (p : ℕ) → Stage → Type 0
 StageMatched bytes arities rules b p before_rules = rules ≡ []
-StageMatched bytes arities rules b p (in_left m ns) = OpenSide bytes arities b (get_or b.left_at b.rules 0) m ns p
-StageMatched bytes arities rules b p (in_right l m ns) = OpenSide bytes arities b (get_or b.right_at b.rules 0) m ns p × LeftWhole bytes arities b l
+StageMatched bytes arities rules b p (in_left m ns) = OpenSide bytes arities b (places_of b b.rules).left.at m ns p
+StageMatched bytes arities rules b p (in_right l m ns) = OpenSide bytes arities b (places_of b b.rules).right.at m ns p × LeftWhole bytes arities b l
 StageMatched bytes arities rules b p rule_whole = Unit {0}
 
 pub record Simulated (bytes : List ℕ) (s : State) (q : Reader) (p : ℕ) : Type 0 where
@@ -85,8 +87,8 @@ module _ {bytes : List ℕ} {s : State} {q : Reader} {p : ℕ} (sim : Simulated 
   rule_simulated : (e : ℕ) (body : List ℕ) → length s.rules < 32 → Simulated bytes (trees.next rule s body) (places.next rule q e body) e
   unfolding trees.next places.next with_left side_of opened
   rule_simulated e body room =
-      let at : get_or (set q.book.left_at q.book.rules e) q.book.rules 0 ≡ e =
-      get_or-set_same q.book.left_at q.book.rules e 0 (omega (arith, sim.matched.sized.left_at, sim.matched.rule_count))
+      let at : (places_of (with_left q.book e) q.book.rules).left.at ≡ e =
+      ap (λ (its : RulePlaces). its.left.at) (get_or-set_same q.book.places q.book.rules _ nowhere (omega (arith, sim.matched.sized.places, sim.matched.rule_count)))
       in
       record {
         matched = left_matched sim.matched e;
@@ -101,16 +103,15 @@ module _ {bytes : List ℕ} {s : State} {q : Reader} {p : ℕ} (sim : Simulated 
 
   -- The left side behind a node of it, from which m subterms are missing then.
   left_simulated :
-      (e m : ℕ) (ns : List Node) → q.book.rules < 32 → SoFar bytes s.arities (get_or q.book.left_at q.book.rules 0) m ns e →
+      (e m : ℕ) (ns : List Node) → q.book.rules < 32 → SoFar bytes s.arities (places_of q.book q.book.rules).left.at m ns e →
       Simulated bytes (trees.left_after s m ns) (side_after q.book e InLeft m (length ns)) e
   unfolding trees.left_after side_after side_whole left_open with_right side_of opened
   left_simulated e zero ns room so =
-      let at : get_or (set q.book.right_at q.book.rules e) q.book.rules 0 ≡ e =
-      get_or-set_same q.book.right_at q.book.rules e 0 (omega (arith, sim.matched.sized.right_at))
+      let its : places_of (with_right q.book (length ns) e) q.book.rules
+      ≡ record { left = record { at = (places_of q.book q.book.rules).left.at; nodes = length ns }; right = record { at = e; nodes = (places_of q.book q.book.rules).right.nodes } } =
+      get_or-set_same q.book.places q.book.rules _ nowhere (omega (arith, sim.matched.sized.places))
       in
-      let many : get_or (set q.book.left_nodes q.book.rules (length ns)) q.book.rules 0 ≡ length ns =
-      get_or-set_same q.book.left_nodes q.book.rules (length ns) 0 (omega (arith, sim.matched.sized.left_nodes))
-      in
+      let at : (places_of (with_right q.book (length ns) e) q.book.rules).right.at ≡ e = ap (λ (p : RulePlaces). p.right.at) its in
       let stood = side_whole_lem so in
       record {
         matched = right_matched sim.matched (length ns) e;
@@ -118,8 +119,8 @@ module _ {bytes : List ℕ} {s : State} {q : Reader} {p : ℕ} (sim : Simulated 
         stage = (
           record { room = room; some_missing_lem = omega arith; so_far = subst (λ (u : ℕ). SoFar bytes s.arities u 1 [] e) (sym at) (none_so_far bytes s.arities e) },
           record {
-            stands = subst (λ (l : ℕ). SideAt bytes s.arities (get_or q.book.left_at q.book.rules 0) l) (sym many) stood.1;
-            is = ap (tree_at bytes s.arities (get_or q.book.left_at q.book.rules 0)) many ∙ stood.0;
+            stands = subst (λ (p : RulePlaces). SideAt bytes s.arities p.left.at p.left.nodes) (sym its) stood.1;
+            is = ap (λ (p : RulePlaces). tree_at bytes s.arities p.left.at p.left.nodes) its ∙ stood.0;
           },
         );
       }
@@ -129,11 +130,11 @@ module _ {bytes : List ℕ} {s : State} {q : Reader} {p : ℕ} (sim : Simulated 
   -- The right side in the same way, with the left side of its rule.
   right_simulated :
       (left : Term) (e m : ℕ) (ns : List Node) → q.book.rules < 32 → LeftWhole bytes s.arities q.book left →
-      SoFar bytes s.arities (get_or q.book.right_at q.book.rules 0) m ns e →
+      SoFar bytes s.arities (places_of q.book q.book.rules).right.at m ns e →
       Simulated bytes (trees.right_after s left m ns) (side_after q.book e InRight m (length ns)) e
   unfolding trees.right_after side_after side_whole left_open side_of no_side
   right_simulated left e zero ns room lw so =
-      let u = get_or q.book.right_at q.book.rules 0 in
+      let u = (places_of q.book q.book.rules).right.at in
       let stood = side_whole_lem so in
       record {
         matched =
@@ -157,7 +158,7 @@ module _ {bytes : List ℕ} {s : State} {q : Reader} {p : ℕ} (sim : Simulated 
   taken_as :
       (e : ℕ) (this : Node) → NodeOver s.arities AnyVariable this → (side : Side) (ns : List Node) → q.side ≡ side → side.nodes ≡ length ns →
       side_after q.book e side.stage (pred side.missing + arity_of s.arities this) (length (ns ++ (this ∷ []))) ≡ node_taken q e this
-  unfolding node_taken with_node
+  unfolding node_taken behind_node with_node
   taken_as e this ok side ns same many =
       ap (λ (n : ℕ). side_after q.book e side.stage (pred side.missing + arity_of s.arities this) n) (length-append ns (this ∷ []) ∙ ap (λ (n : ℕ). n + 1) (sym many))
       ∙ ap₂ (λ (t : Side) (a : ℕ). let w = with_node t a in side_after q.book e w.stage w.missing w.nodes) (sym same) (sym (arity_same this ok))

@@ -1,8 +1,8 @@
 -- The five tests of one record, in their order: what each refusal and the taking of a record say of them. Assumes nothing.
-use Prim.Native.Nat.{ℕ, zero, suc, ◌+◌, ◌≤◌, ◌<◌}
+use Prim.Native.Nat.{ℕ, ◌+◌, ◌≤◌, ◌<◌}
 use mathlib.Core.Bool.{Bool, true, false}
 use mathlib.Core.List.{List}
-use mathlib.Core.Path.{◌≡◌, refl, sym, ap, subst, ◌∙◌}
+use mathlib.Core.Path.{◌≡◌, sym, ap, subst, ◌∙◌}
 use borrow.Author.Tests.{le-leb, lt-leb}
 use lib.Dec.{T, leb, leb→le}
 use lib.ListN.{length, get_or}
@@ -10,21 +10,14 @@ use Rattle.reply.specs.Reply.{Attempt, given, refused, unless, ◌>>◌}
 use Rattle.reply.specs.declared.Refusal.{Refusal as Named}
 use Rattle.reply.specs.declared.Refusal.TheVariants.{BookEnded, UnknownKind, NotAllowed, BadBody, TooMany}
 use Rattle.reply.proofs.Given.{then_given, unless_given, unless_given_alone}
-use Rattle.term.specs.Tables.{kind_of, body_length}
-use Rattle.book.specs.Checks.{known, allowed, body_fits, body_checked, room_left, checked, refusal_numbered, number_told}
+use Rattle.term.specs.Kinds.{on_paper}
+use Rattle.term.specs.Tables.{Kind, unknown, kind_of, body_length}
+use Rattle.term.specs.declared.kinds.Kind.{Kind as Named_kind}
+use Rattle.book.specs.Checks.{known, allowed, body_fits, body_checked, room_left, checked}
 use Rattle.book.specs.declared.sides.Side.{Side}
 use Rattle.book.specs.Checks.{body_at}
+use Rattle.book.proofs.KindNumbers.{known_named}
 use Rattle.book.proofs.Bodies.{cut_body, whole_body, body_tests, first_fits}
-
--- What the number of a refusal tells.
-pub told_taken : (len p : ℕ) {number : ℕ} → number ≡ 0 → number_told len p number ≡ given tt
-unfolding number_told
-told_taken len p none = ap (number_told len p) none
-
-pub told_refused : (len p number : ℕ) → (number ≡ 0 → ⊥) → number_told len p number ≡ refused (refusal_numbered len p number)
-unfolding number_told
-told_refused len p zero some = absurd (some refl)
-told_refused len p (suc number) some = refl
 
 -- The record at p of a book: its tests, one behind the other.
 module _ (bytes : List ℕ) (p : ℕ) (side : Side) (symbols rules : ℕ) where
@@ -34,12 +27,16 @@ module _ (bytes : List ℕ) (p : ℕ) (side : Side) (symbols rules : ℕ) where
   abbrev pub checked_here : Attempt Named (Unit {0})
   checked_here = checked (length bytes) p (get_or bytes p 0) (body_at bytes p) side symbols rules
 
-  pub unknown_kind : known (kind_of k) ≡ false → checked_here ≡ refused (UnknownKind p)
-  unfolding checked unless ◌>>◌
-  unknown_kind e₂ = rw (checked, e₂)
+  pub unknown_kind : unknown ≡ kind_of k → refused (UnknownKind p) ≡ checked_here
+  unfolding known checked unless ◌>>◌
+  unknown_kind is = let e₂ : known (kind_of k) ≡ false = ap known (sym is) in rw (checked, e₂)
 
-  module _ (e₂ : known (kind_of k) ≡ true) (here : p < length bytes) where
-    pub body_cut : length bytes < p + 1 + body_length k → checked_here ≡ refused (BookEnded (length bytes))
+  -- Of a kind that is known.
+  module _ (kind : Named_kind) (is : on_paper kind ≡ kind_of k) (here : p < length bytes) where
+    e₂ : known (kind_of k) ≡ true
+    e₂ = ap known (sym is) ∙ known_named kind
+
+    pub body_cut : length bytes < p + 1 + body_length k → refused (BookEnded (length bytes)) ≡ checked_here
     unfolding checked unless ◌>>◌
     body_cut h = let e₁ : leb (body_length k) (length (body_at bytes p)) ≡ false = lt-leb _ _ (cut_body bytes p here h) in rw (checked, e₂, e₁)
 
@@ -51,26 +48,30 @@ module _ (bytes : List ℕ) (p : ℕ) (side : Side) (symbols rules : ℕ) where
       e₁ = le-leb (body_length k) (length (body_at bytes p)) enough
 
       -- The one test of the body.
-      body_told : (fits : Bool) → body_fits (kind_of k) symbols (get_or bytes (p + 1) 0) ≡ fits → body_checked (kind_of k) symbols (p + 1) (body_at bytes p) ≡ unless fits (BadBody (p + 1))
-      body_told fits e = body_tests bytes p symbols (subst T (sym e₂) tt) enough ∙ ap (λ (t : Bool). unless t (BadBody (p + 1))) e
+      body_told :
+          (fits : Bool) → body_fits (on_paper kind) symbols (get_or bytes (p + 1) 0) ≡ fits →
+          body_checked (kind_of k) symbols (p + 1) (body_at bytes p) ≡ unless fits (BadBody (p + 1))
+      body_told fits e =
+          body_tests bytes p symbols (subst T (sym e₂) tt) enough
+          ∙ ap (λ (t : Bool). unless t (BadBody (p + 1))) (ap (λ (of : Kind). body_fits of symbols (get_or bytes (p + 1) 0)) (sym is) ∙ e)
 
-      pub not_allowed : allowed (kind_of k) side.stage ≡ false → checked_here ≡ refused (NotAllowed p)
+      pub not_allowed : allowed (on_paper kind) side.stage ≡ false → refused (NotAllowed p) ≡ checked_here
       unfolding checked unless ◌>>◌
-      not_allowed e₃ = rw (checked, e₂, e₁, e₃)
+      not_allowed e₃ = rw (checked, e₂, e₁, ← is, e₃)
 
-      module _ (e₃ : allowed (kind_of k) side.stage ≡ true) where
-        pub bad_body : body_fits (kind_of k) symbols (get_or bytes (p + 1) 0) ≡ false → checked_here ≡ refused (BadBody (p + 1))
+      module _ (e₃ : allowed (on_paper kind) side.stage ≡ true) where
+        pub bad_body : body_fits (on_paper kind) symbols (get_or bytes (p + 1) 0) ≡ false → refused (BadBody (p + 1)) ≡ checked_here
         unfolding checked unless ◌>>◌
-        bad_body e₄ = rw (checked, e₂, e₁, e₃, body_told false e₄)
+        bad_body e₄ = rw (checked, e₂, e₁, body_told false e₄, ← is, e₃)
 
-        module _ (e₄ : body_fits (kind_of k) symbols (get_or bytes (p + 1) 0) ≡ true) where
-          pub too_many : room_left (kind_of k) symbols rules side.nodes ≡ false → checked_here ≡ refused (TooMany p)
+        module _ (e₄ : body_fits (on_paper kind) symbols (get_or bytes (p + 1) 0) ≡ true) where
+          pub too_many : room_left (on_paper kind) symbols rules side.nodes ≡ false → refused (TooMany p) ≡ checked_here
           unfolding checked unless ◌>>◌
-          too_many e₅ = rw (checked, e₂, e₁, e₃, body_told true e₄, e₅)
+          too_many e₅ = rw (checked, e₂, e₁, body_told true e₄, ← is, e₃, e₅)
 
-          pub taken : room_left (kind_of k) symbols rules side.nodes ≡ true → checked_here ≡ given tt
+          pub taken : room_left (on_paper kind) symbols rules side.nodes ≡ true → given tt ≡ checked_here
           unfolding checked unless ◌>>◌
-          taken e₅ = rw (checked, e₂, e₁, e₃, body_told true e₄, e₅)
+          taken e₅ = rw (checked, e₂, e₁, body_told true e₄, ← is, e₃, e₅)
 
 -- A record that passed its five tests.
 pub record Passed (k : ℕ) (body : List ℕ) (side : Side) (symbols rules : ℕ) : Type 0 where

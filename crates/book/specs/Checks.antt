@@ -1,5 +1,5 @@
 -- The tests of one record of a book, and of what stands behind its end. The reading to trees and the reading to places ask the same.
-use Rattle.std.specs.Prelude.{ℕ, zero, suc, ◌+◌, Bool, true, false, not, List, [], ◌∷◌, leb, ltb, length, get_or, take, drop}
+use Rattle.std.specs.Prelude.{ℕ, ◌+◌, Bool, true, false, not, List, [], ◌∷◌, leb, ltb, length, get_or, take, drop, Result, Ok, Err}
 use Rattle.reply.specs.Reply.{Attempt, given, refused, unless, ◌>>◌}
 use Rattle.reply.specs.declared.Refusal.{Refusal as Named}
 use Rattle.reply.specs.declared.Refusal.TheVariants.{BookEnded, UnknownKind, NotAllowed, BadBody, TooMany, AfterEnd}
@@ -73,11 +73,7 @@ checked_at bytes p = checked (length bytes) p (get_or bytes p 0) (body_at bytes 
 unfoldable pub nothing_more : (len p : ℕ) → Attempt Named (Unit {0})
 nothing_more len p = unless (leb len p) (AfterEnd p)
 
--- The refusal of the record at p that has this number, 1 to 5.
-unfoldable pub refusal_numbered : (len p number : ℕ) → Named
-refusal_numbered len p number = get_or (TooMany p ∷ BookEnded len ∷ UnknownKind p ∷ NotAllowed p ∷ BadBody (p + 1) ∷ []) number (TooMany p)
-
--- What a number says of the record at p: 0 that it is taken, another that it is refused.
-unfoldable pub number_told : (len p number : ℕ) → Attempt Named (Unit {0})
-number_told len p zero = given tt
-number_told len p (suc number) = refused (refusal_numbered len p (suc number))
+-- What testing a record found: nothing to refuse, whatever is given with that, or its first refusal.
+unfoldable pub tested : {A : Type 0} → Result A Named → Attempt Named (Unit {0})
+tested (Ok a) = given tt
+tested (Err r) = refused r

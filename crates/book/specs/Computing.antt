@@ -2,11 +2,11 @@
 use Rattle.term.specs.Computing
 use Rattle.book.specs.Book.{symbols}
 use Rattle.book.specs.Sides.{side_open, no_rule_yet, left_open, no_side, opened, with_node}
-use Rattle.book.specs.Checks.{known, allowed, body_fits, body_checked, room_left, checked, body_at, nothing_more, refusal_numbered, number_told}
+use Rattle.book.specs.Checks.{known, allowed, body_fits, body_checked, room_left, checked, body_at, nothing_more, tested}
 use Rattle.book.specs.Reading.{side_of, left_after, right_after, node_at, next, record_at, ended, read_from, start, read_book}
 use Rattle.book.specs.Entries.{nothing_read, with_symbol, with_left, with_right, with_rule}
 use Rattle.book.specs.Placed as places
-use Rattle.book.specs.Meaning.{opens_of, arities_of, rule_at, rules_before, book_at, told, meaning}
+use Rattle.book.specs.Meaning.{arities_of, rule_at, rules_before, book_at, meaning}
 use Rattle.book.specs.Examples.{
   fx_to_gx,
   example1,
@@ -29,7 +29,7 @@ unfolding symbols side_open no_rule_yet left_open no_side opened with_node
 sides = tt
 
 unfoldable checks : Unit {0}
-unfolding known allowed body_fits body_checked room_left checked body_at nothing_more refusal_numbered number_told
+unfolding known allowed body_fits body_checked room_left checked body_at nothing_more tested
 checks = tt
 
 unfoldable trees : Unit {0}
@@ -37,11 +37,11 @@ unfolding side_of left_after right_after node_at next record_at ended read_from 
 trees = tt
 
 unfoldable entries : Unit {0}
-unfolding nothing_read with_symbol with_left with_right with_rule places.side_whole places.side_after places.node_taken places.next places.ended
+unfolding nothing_read with_symbol with_left with_right with_rule places.side_whole places.side_after places.behind_node places.node_taken places.next places.ended
 entries = tt
 
 unfoldable placing : Unit {0}
-unfolding places.placed_from places.start places.answer places.placed opens_of arities_of rule_at rules_before book_at told meaning
+unfolding places.placed_from places.start places.placed arities_of rule_at rules_before book_at meaning
 placing = tt
 
 unfoldable examples : Unit {0}

@@ -11,3 +11,4 @@ pub mod Standing
 pub mod WasRead
 pub mod Examples
 pub mod Computing
+pub mod BookOf

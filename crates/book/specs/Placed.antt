@@ -1,7 +1,8 @@
 -- Reading a book to places: the machine of Reading.antt over where each side stands and how many nodes it has, instead of trees. It
--- settles every field of the answered struct: a refused reading has nothing read beside its refusal.
-use Rattle.std.specs.Prelude.{ℕ, zero, suc, ◌+◌, true, false, List, ltb, eqb, length, get_or}
+-- settles every field of the book that is answered, and the refusal.
+use Rattle.std.specs.Prelude.{ℕ, zero, suc, ◌+◌, true, false, List, ltb, eqb, length, get_or, Result}
 use Rattle.reply.specs.Reply.{Attempt, given, refused, ◌>>◌}
+use Rattle.reply.specs.Replied.{result_of}
 use Rattle.reply.specs.declared.Refusal.{Refusal as Named}
 use Rattle.reply.specs.declared.Refusal.TheVariants.{BookEnded}
 use Rattle.term.specs.Tables.{Kind, unknown, symbol, rule, symbol_node, variable_node, end, kind_of, body_length}
@@ -10,16 +11,9 @@ use Rattle.book.specs.Checks.{body_at, checked_at, nothing_more}
 use Rattle.book.specs.Entries.{nothing_read, with_symbol, with_left, with_right, with_rule}
 use Rattle.book.specs.Sides.{left_open, no_side, opened, with_node}
 use Rattle.book.specs.declared.Book.{Book as PlacedBook}
-use Rattle.book.specs.declared.BookVerdict.TheVariants.{Readable, Refused}
-use Rattle.book.specs.declared.ReadBook.{ReadBook}
-use Rattle.book.specs.declared.sides.Side.{Side}
+use Rattle.book.specs.declared.reader.Reader.{Reader}
 use Rattle.book.specs.declared.sides.Stage.{Stage}
 use Rattle.book.specs.declared.sides.Stage.TheVariants.{BeforeRules, InLeft, InRight, RuleWhole}
-
--- What was read so far, and the side that is being read.
-pub record Reader : Type 0 where
-  pub book : PlacedBook
-  pub side : Side
 
 -- A left side that is whole gives way to the right, which starts at e, and a right side that is whole ends its rule.
 unfoldable pub side_whole : PlacedBook → (e : ℕ) → Stage → (nodes : ℕ) → Reader
@@ -34,10 +28,12 @@ unfoldable pub side_after : PlacedBook → (e : ℕ) → Stage → (missing node
 side_after b e stage zero nodes = side_whole b e stage nodes
 side_after b e stage (suc missing) nodes = record { book = b; side = record { stage = stage; missing = suc missing; nodes = nodes } }
 
+-- A node that opens so many subterms is taken, and the next record is at e.
+unfoldable pub behind_node : Reader → (e opens : ℕ) → Reader
+behind_node q e opens = let side = with_node q.side opens in side_after q.book e side.stage side.missing side.nodes
+
 unfoldable pub node_taken : Reader → (e : ℕ) → Node → Reader
-node_taken q e node =
-    let side = with_node q.side (arity_of q.book.arities node) in
-    side_after q.book e side.stage side.missing side.nodes
+node_taken q e node = behind_node q e (arity_of q.book.arities node)
 
 -- A record of this kind and with this body is taken; the next one is at e.
 unfoldable pub next : Kind → Reader → (e : ℕ) (body : List ℕ) → Reader
@@ -73,11 +69,6 @@ placed_from (suc fuel) bytes q p =
 unfoldable pub start : Reader
 start = record { book = nothing_read; side = no_side BeforeRules }
 
--- The struct of an attempt: the places that were read, or the refusal with nothing read.
-unfoldable pub answer : Attempt Named PlacedBook → ReadBook
-answer (given b) = record { verdict = Readable; book = b }
-answer (refused r) = record { verdict = Refused r; book = nothing_read }
-
--- The answered struct of a book, from its bytes.
-unfoldable pub placed : List ℕ → ReadBook
-placed bytes = answer (placed_from (length bytes) bytes start 0)
+-- The answer for a book, from its bytes: the places that were read, or the refusal.
+unfoldable pub placed : List ℕ → Result PlacedBook Named
+placed bytes = result_of (placed_from (length bytes) bytes start 0)

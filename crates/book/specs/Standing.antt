@@ -3,6 +3,7 @@ use Rattle.std.specs.Prelude.{ℕ, ◌+◌, ◌*◌, ◌≤◌, ◌<◌, List, �
 use Rattle.term.specs.Term.{Term, size}
 use Rattle.term.specs.At.{At}
 use Rattle.book.specs.Book.{Book, Rule, symbols}
+use Rattle.book.specs.Entries.{places_of}
 use Rattle.book.specs.declared.Book.{Book as PlacedBook}
 
 -- A side: the term stands from its place on, over the array of arities, and has so many nodes, two bytes each.
@@ -20,7 +21,7 @@ pub record BookStands (bytes : List ℕ) (b : PlacedBook) (book : Book) : Type 0
   pub few_rules : b.rules ≤ 32
   pub left :
       (i : ℕ) (other : Rule) → i < b.rules →
-      SideStands bytes b.arities (get_or b.left_at i 0) (get_or b.left_nodes i 0) (get_or book.rules i other).left
+      SideStands bytes b.arities (places_of b i).left.at (places_of b i).left.nodes (get_or book.rules i other).left
   pub right :
       (i : ℕ) (other : Rule) → i < b.rules →
-      SideStands bytes b.arities (get_or b.right_at i 0) (get_or b.right_nodes i 0) (get_or book.rules i other).right
+      SideStands bytes b.arities (places_of b i).right.at (places_of b i).right.nodes (get_or book.rules i other).right

@@ -1,103 +1,86 @@
 // The tests of one record of a book.
-ghost use Rattle.std.specs.Prelude.{◌≡◌, ◌+◌, ◌<◌, length, get_or};
+ghost use Rattle.std.specs.Prelude.{◌≡◌, ◌<◌, length, get_or, IfOk};
+ghost use Rattle.term.specs.Kinds.{on_paper};
 ghost use Rattle.term.specs.Tables.{kind_of};
-ghost use Rattle.book.specs.Checks.{known, allowed, body_fits, room_left, checked_at, refusal_numbered, number_told};
+ghost use Rattle.book.specs.Checks.{allowed, body_fits, room_left, checked_at, tested};
 
-use crate::sides::{Side, Stage, no_rule_yet, side_open};
+use crate::reader::Reader;
+use crate::sides::Stage;
 use reply::Refusal;
+use term::kinds::Kind;
 use text::wide;
 
-// Kinds 1 to 5.
-fn is_known(kind: u8) -> bool
-    ensures { result ≡ known (kind_of kind) }
+// The byte at this place, 0 past the end.
+pub fn byte_at(bytes: &[u8], at: usize) -> u8
+    ensures { result ≡ get_or bytes.now at 0 }
 {
-    if kind < 1 { false } else { kind <= 5 }
+    bytes.get(at).copied().unwrap_or(0)
 }
 
 // Refusal 3: a symbol after a rule, a node outside a side still open, a rule or the end while a side is open.
-fn is_allowed(kind: u8, stage: Stage) -> bool
-    ensures { result ≡ allowed (kind_of kind) stage }
+#[tactic(auto, unfolding(crate::specs::Checks::allowed, term::specs::Kinds::on_paper))]
+fn is_allowed(kind: Kind, stage: Stage) -> bool
+    ensures { result ≡ allowed (on_paper kind) stage }
 {
     match kind {
-        1 => no_rule_yet(stage),
-        2 => !side_open(stage),
-        3 => side_open(stage),
-        4 => side_open(stage),
-        5 => !side_open(stage),
-        _ => false,
+        Kind::Symbol => stage.no_rule_yet(),
+        Kind::Rule | Kind::End => !stage.side_open(),
+        Kind::SymbolNode | Kind::VariableNode => stage.side_open(),
     }
 }
 
 // Refusal 4: an arity above 6, a variable above 15, a symbol not declared.
-fn body_fits(kind: u8, symbols: usize, byte: u8) -> bool
-    ensures { result ≡ body_fits (kind_of kind) symbols byte }
+#[tactic(auto, unfolding(crate::specs::Checks::body_fits, term::specs::Kinds::on_paper))]
+fn body_fits(kind: Kind, symbols: usize, byte: u8) -> bool
+    ensures { result ≡ body_fits (on_paper kind) symbols byte }
 {
     match kind {
-        1 => byte <= 6,
-        3 => wide(byte) < symbols,
-        4 => byte <= 15,
-        _ => true,
+        Kind::Symbol => byte <= 6,
+        Kind::SymbolNode => wide(byte) < symbols,
+        Kind::VariableNode => byte <= 15,
+        Kind::Rule | Kind::End => true,
     }
 }
 
 // Refusal 5: the 17th symbol, the 33rd rule, the 11th node of a side.
-fn room_left(kind: u8, symbols: usize, rules: usize, nodes: usize) -> bool
-    ensures { result ≡ room_left (kind_of kind) symbols rules nodes }
+#[tactic(auto, unfolding(crate::specs::Checks::room_left, term::specs::Kinds::on_paper))]
+fn room_left(kind: Kind, symbols: usize, rules: usize, nodes: usize) -> bool
+    ensures { result ≡ room_left (on_paper kind) symbols rules nodes }
 {
     match kind {
-        1 => symbols < 16,
-        2 => rules < 32,
-        3 => nodes < 10,
-        4 => nodes < 10,
-        _ => true,
+        Kind::Symbol => symbols < 16,
+        Kind::Rule => rules < 32,
+        Kind::SymbolNode | Kind::VariableNode => nodes < 10,
+        Kind::End => true,
     }
 }
 
-// The record whose kind byte stands at `at`, in the order 2, 1, 3, 4, 5: the number of its first refusal, 0 if it is taken. The caller has
-// read the kind and the byte behind it.
-pub fn check_record(
-    bytes: &[u8],
-    at: usize,
-    kind: u8,
-    body: u8,
-    side: Side,
-    symbols: usize,
-    rules: usize,
-) -> u8
-    requires at_in_bounds { at < length bytes.now }
-    requires kind_value { kind ≡ get_or bytes.now at 0 }
-    requires body_value { body ≡ get_or bytes.now (at + 1) 0 }
-    ensures { checked_at bytes.now at side symbols rules ≡ number_told (length bytes.now) at result }
+// The record whose kind byte stands at `at`, in the order 2, 1, 3, 4, 5: its kind, or its first refusal.
+#[tactic(auto, using(crate::proofs::Tests::unknown_kind, crate::proofs::Tests::not_allowed, crate::proofs::Tests::bad_body, crate::proofs::Tests::too_many, crate::proofs::Tests::taken), unfolding(crate::specs::Checks::tested, term::specs::Kinds::kind_read))]
+pub fn check_record(bytes: &[u8], at: usize, reader: &Reader) -> Result<Kind, Refusal>
+    requires { at < length bytes.now }
+    ensures checked { tested result ≡ checked_at bytes.now at reader.now.side reader.now.book.symbols reader.now.book.rules }
+    ensures kind { IfOk result (λ kind. on_paper kind ≡ kind_of (get_or bytes.now at 0)) }
 {
-    if !is_known(kind) {
-        return 2;
+    let Ok(kind) = Kind::try_from(bytes[at]) else {
+        return Err(Refusal::UnknownKind(at));
+    };
+    if bytes.len() - at - 1 < term::body_length(bytes[at]) {
+        return Err(Refusal::BookEnded(bytes.len()));
     }
-    if bytes.len() - at - 1 < term::body_length(kind) {
-        return 1;
+    if !is_allowed(kind, reader.side.stage) {
+        return Err(Refusal::NotAllowed(at));
     }
-    let stage = side.stage;
-    if !is_allowed(kind, stage) {
-        return 3;
+    if !body_fits(kind, reader.book.symbols, byte_at(bytes, at + 1)) {
+        return Err(Refusal::BadBody(at + 1));
     }
-    if !body_fits(kind, symbols, body) {
-        return 4;
+    if !room_left(
+        kind,
+        reader.book.symbols,
+        reader.book.rules,
+        reader.side.nodes,
+    ) {
+        return Err(Refusal::TooMany(at));
     }
-    if !room_left(kind, symbols, rules, side.nodes) {
-        return 5;
-    }
-    0
-}
-
-// The refusal of this number, 1 to 5, of the record at `at`.
-pub fn refusal_numbered(number: u8, len: usize, at: usize) -> Refusal
-    requires { at < len }
-    ensures { result ≡ refusal_numbered len at number }
-{
-    match number {
-        1 => Refusal::BookEnded(len),
-        2 => Refusal::UnknownKind(at),
-        3 => Refusal::NotAllowed(at),
-        4 => Refusal::BadBody(at + 1),
-        _ => Refusal::TooMany(at),
-    }
+    Ok(kind)
 }

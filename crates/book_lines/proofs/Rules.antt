@@ -7,6 +7,7 @@ use borrow.Rule.Slice.PartMut.{mid_of, put_mid}
 use Rattle.text.specs.Laying.{Lays}
 use Rattle.text.specs.Text.{ascii}
 use Rattle.text.proofs.Laying.{lays_as, lays_then}
+use Rattle.book.specs.Entries.{places_of}
 use Rattle.book.specs.Meaning.{book_at}
 use Rattle.book.specs.WasRead.{ReadFrom}
 use Rattle.book.specs.declared.Book.{Book as Places}
@@ -28,8 +29,8 @@ module _ {bytes : List ℕ} {b : Places} (read : ReadFrom bytes b) where
   -- Both sides, each behind its word.
   pub sides_laid :
       (i : ℕ) → i < b.rules → {before one two three : List ℕ} {k m n : ℕ} →
-      LaysFor bytes b.arities (get_or b.left_at i 0) (λ t. ascii ": " ++ term_text t) before k one →
-      LaysFor bytes b.arities (get_or b.right_at i 0) (λ t. ascii " -> " ++ term_text t) (mid_of k (length one - k) one) m two →
+      LaysFor bytes b.arities (places_of b i).left.at (λ t. ascii ": " ++ term_text t) before k one →
+      LaysFor bytes b.arities (places_of b i).right.at (λ t. ascii " -> " ++ term_text t) (mid_of k (length one - k) one) m two →
       Lays (ascii "\n") (mid_of (k + m) (length (put_mid k (length one - k) one two) - (k + m)) (put_mid k (length one - k) one two)) n three →
       Lays (sides_text (get_or (book_at bytes b).rules i no_rule)) before (k + m + n)
       (put_mid (k + m) (length (put_mid k (length one - k) one two) - (k + m)) (put_mid k (length one - k) one two) three)

@@ -1,12 +1,12 @@
 -- The right side is laid down behind the bytes that the buffer already has: what lies there and what is ahead are the whole. Assumes
 -- nothing.
-use Prim.Native.Nat.{ℕ, suc, ◌+◌, ◌-◌, ◌<◌, ◌≤◌}
+use Prim.Native.Nat.{ℕ, ◌+◌, ◌-◌, ◌<◌, ◌≤◌}
 use mathlib.Core.List.{List, [], ◌∷◌, ◌++◌, append_assoc, append-nil}
 use mathlib.Core.Path.{◌≡◌, refl, sym, ap, ap₂, subst₂, ◌∙◌}
-use native.Mathlib.Numerals.{add-one, add-two}
+use native.Mathlib.Numerals.{add-one}
 use native.Mathlib.Omega.{arith}
-use lib.ListN.{length, get_or, take, drop, set, length-append, length-set, length-drop}
-use lib.Seq.{take_all, take_at, take-suc-set, length-take-le, drop_at, drop-drop, drop-append-le, drop-set-lt}
+use lib.ListN.{length, get_or, take, drop, length-append, length-drop}
+use lib.Seq.{take_all, take_at, length-take-le, drop_at, drop-cons, drop-drop, drop-append-le}
 use borrow.Rule.Slice.PartMut.{mid_of, post_of, put_mid, same_len_mid, mid_len, put_same}
 use Rattle.reply.specs.Lent.{overlaid}
 use Rattle.term.specs.Term.{Term}
@@ -19,7 +19,7 @@ use Rattle.term.proofs.PrefixAt.{prefix_length, copied_prefix}
 use Rattle.term.proofs.Copied.{copied_whole}
 use Rattle.building.specs.Right.{LaidBehind, Within, Built, BuiltFits}
 use Rattle.building.specs.declared.Place.{Place}
-use Rattle.building.proofs.RightSide.{Ahead, all_ahead, symbol_ahead, variable_ahead, none_ahead}
+use Rattle.building.proofs.RightSide.{Ahead, all_ahead, none_ahead}
 
 abbrev Bytes : Type 0
 Bytes = List ℕ
@@ -35,15 +35,6 @@ drop_further : (n m : ℕ) (l k : Bytes) → n ≤ m → drop n l ≡ drop n k �
 drop_further n m l k p q =
     let on : n + (m - n) ≡ m = omega arith in
     ap (λ (i : ℕ). drop i l) (sym on) ∙ sym (drop-drop (m - n) n l) ∙ ap (drop (m - n)) q ∙ drop-drop (m - n) n k ∙ ap (λ (i : ℕ). drop i k) on
-
--- Two bytes stored behind the first a.
-take_two_set : (l : Bytes) (a i j : ℕ) → a + 1 < length l → take (a + 2) (set (set l a i) (a + 1) j) ≡ take a l ++ (i ∷ j ∷ [])
-take_two_set l a i j p =
-    ap (λ (n : ℕ). take n (set (set l a i) (a + 1) j)) (add-two a)
-    ∙ ap (λ (n : ℕ). take (suc (suc a)) (set (set l a i) n j)) (add-one a)
-    ∙ take-suc-set (set l a i) (suc a) j (rw (length-set l a i) (omega arith))
-    ∙ ap (λ (w : Bytes). w ++ (j ∷ [])) (take-suc-set l a i (omega arith))
-    ∙ append_assoc (take a l) (i ∷ []) (j ∷ [])
 
 -- What the copier lays into the remainder behind the first a bytes, where it fits.
 module _ (a : ℕ) (out text : Bytes) where
@@ -81,11 +72,27 @@ module _ (a : ℕ) (out text : Bytes) where
         ∙ ap (drop (length text)) (sym from)
         ∙ drop-drop (length text) a out
 
--- A term that fits is copied whole.
+-- A term that fits is copied whole ..
 pub copied_into :
-    (a : ℕ) (out : Bytes) {bytes arities : Bytes} {u : ℕ} {t : Term} {e : ℕ} → At bytes arities u t e → a + (e - u) ≤ length out →
+    (a : ℕ) (out : Bytes) {bytes arities : Bytes} {u : ℕ} {t : Term} {e : ℕ} → At bytes arities u t e → a + length (prefix t) ≤ length out →
     copied bytes u e (length (mid_of a (length out - a) out)) ≡ prefix t
-copied_into a out h room = copied_prefix (length (mid_of a (length out - a) out)) h (omega (arith, at_end_lem h, mid_len a (length out) out (omega arith)))
+copied_into a out {t = t} h room =
+    copied_prefix (length (mid_of a (length out - a) out)) h
+    (omega (arith, at_end_lem h, prefix_length t, mid_len a (length out) out (omega arith)))
+
+-- .. and so are the two bytes of a node.
+pub node_copied :
+    (a : ℕ) (out book : Bytes) (right : ℕ) → right + 1 < length book → a + 2 ≤ length out →
+    copied book right (right + 2) (length (mid_of a (length out - a) out)) ≡ get_or book right 0 ∷ get_or book (right + 1) 0 ∷ []
+node_copied a out book right there room =
+    let two : right + 2 - right ≡ 2 = omega arith in
+    copied_whole book right (right + 2) (length (mid_of a (length out - a) out)) (omega (arith, mid_len a (length out) out (omega arith)))
+    ∙ ap (λ (n : ℕ). take n (drop right book)) two
+    ∙ ap (take 2) (
+    drop-cons book right 0 (omega arith)
+    ∙ ap (λ (n : ℕ). get_or book right 0 ∷ drop n book) (sym (add-one right))
+    ∙ ap (λ (w : Bytes). get_or book right 0 ∷ w) (drop-cons book (right + 1) 0 there)
+    )
 
 -- The right side is laid down up to a node of it, behind the first `at` bytes.
 pub record Laying (book arities : Bytes) (r : Term) (σ : Replacement) (d right at : ℕ) (before after : Bytes) (end : ℕ) : Type 0 where
@@ -105,73 +112,28 @@ nothing_laid {r = r} σ at before h =
 module _
     {book arities : Bytes} {r : Term} {σ : Replacement} {d right at : ℕ} {before after : Bytes} {end : ℕ}
     (laying : Laying book arities r σ d right at before after end) where
-  module _ (p : right < d) where
-    abbrev pub number : ℕ
-    number = get_or book (right + 1) 0
+  -- The bytes of a node, or those of the term that replaces it, are laid.
+  module _ (text : Bytes) {later : Bytes} (parts : laying.rest ≡ text ++ later) (on : Ahead book arities r σ d (right + 2) later) where
+    pub text_room : at + length (prefix (replace σ r)) ≤ length before → end + length text ≤ length after
+    text_room room = omega (arith, laying.counted, laying.kept, ap length parts ∙ length-append text later)
 
-    module _ (k : get_or book right 0 ≡ 3) where
-      pub symbol_room : at + length (prefix (replace σ r)) ≤ length before → end + 1 < length after
-      symbol_room room = omega (arith, laying.counted, laying.kept, ap length (symbol_ahead laying.ahead p k).parts)
-
-      pub symbol_laid : end + 1 < length after → Laying book arities r σ d (right + 2) at before (set (set after end 3) (end + 1) number) (end + 2)
-      symbol_laid there =
-          let symbol = symbol_ahead laying.ahead p k in
-          record {
-            rest = symbol.later;
-            ahead = symbol.on;
-            whole =
-                ap (λ (w : Bytes). w ++ symbol.later) (take_two_set after end 3 number there)
-                ∙ append_assoc (take end after) (3 ∷ number ∷ []) symbol.later
-                ∙ ap (λ (w : Bytes). take end after ++ w) (sym symbol.parts)
-                ∙ laying.whole;
-            counted = omega (arith, laying.counted, ap length symbol.parts);
-            kept = length-set (set after end 3) (end + 1) number ∙ length-set after end 3 ∙ laying.kept;
-            behind =
-                drop-set-lt (end + 2) (set after end 3) (end + 1) number (omega arith)
-                ∙ drop-set-lt (end + 2) after end 3 (omega arith)
-                ∙ drop_further end (end + 2) after before (omega arith) laying.behind;
-          }
-
-    -- The variable's term stands from u to e, and is copied into the remainder.
-    module _ (k : get_or book right 0 ≡ 3 → ⊥) {bytes arities' : Bytes} {u e : ℕ} (h : At bytes arities' u (σ number) e) where
-      pub variable_room : at + length (prefix (replace σ r)) ≤ length before → end + (e - u) ≤ length after
-      variable_room room =
-          let variable = variable_ahead laying.ahead p k in
-          omega (
-            arith,
-            laying.counted,
-            laying.kept,
-            ap length variable.parts ∙ length-append (prefix (σ number)) variable.later,
-            prefix_length (σ number),
-            at_end_lem h,
-          )
-
-      module _ (room : end + (e - u) ≤ length after) (text : Bytes) (is-text : text ≡ prefix (σ number)) where
-        fits : end + length text ≤ length after
-        fits = omega (arith, ap length is-text, prefix_length (σ number), at_end_lem h)
-
-        pub variable_laid : Laying book arities r σ d (right + 2) at before (laid_in end after text) (end + length text)
-        variable_laid =
-            let variable = variable_ahead laying.ahead p k in
-            record {
-              rest = variable.later;
-              ahead = variable.on;
-              whole =
-                  ap (λ (w : Bytes). w ++ variable.later) (laid_in_front end after text fits)
-                  ∙ append_assoc (take end after) text variable.later
-                  ∙ ap (λ (w : Bytes). take end after ++ (w ++ variable.later)) is-text
-                  ∙ ap (λ (w : Bytes). take end after ++ w) (sym variable.parts)
-                  ∙ laying.whole;
-              counted =
-                  omega (
-                    arith,
-                    laying.counted,
-                    ap length variable.parts ∙ length-append (prefix (σ number)) variable.later,
-                    ap length is-text,
-                  );
-              kept = laid_in_length end after text fits ∙ laying.kept;
-              behind = laid_in_behind end after text fits ∙ drop_further end (end + length text) after before (omega arith) laying.behind;
-            }
+    pub text_laid :
+        (laid : Bytes) → laid ≡ text → end + length text ≤ length after → Laying book arities r σ d (right + 2) at before (laid_in end after laid) (end + length laid)
+    text_laid laid is room =
+        let fits : end + length laid ≤ length after = omega (arith, ap length is) in
+        record {
+          rest = later;
+          ahead = on;
+          whole =
+              ap (λ (w : Bytes). w ++ later) (laid_in_front end after laid fits)
+              ∙ append_assoc (take end after) laid later
+              ∙ ap (λ (w : Bytes). take end after ++ (w ++ later)) is
+              ∙ ap (λ (w : Bytes). take end after ++ w) (sym parts)
+              ∙ laying.whole;
+          counted = omega (arith, laying.counted, ap length parts ∙ length-append text later, ap length is);
+          kept = laid_in_length end after laid fits ∙ laying.kept;
+          behind = laid_in_behind end after laid fits ∙ drop_further end (end + length laid) after before (omega arith) laying.behind;
+        }
 
   pub all_laid : d ≤ right → LaidBehind at end before after (replace σ r)
   all_laid p =

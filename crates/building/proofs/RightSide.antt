@@ -1,19 +1,21 @@
 -- A right side under a replacement, node by node in prefix order: the bytes that are left to lay begin with the symbol's two bytes, or
 -- with the bytes of the term that replaces the variable. Assumes nothing.
 use Prim.Native.Nat.{ℕ, zero, suc, ◌+◌, ◌*◌, ◌-◌, ◌<◌, ◌≤◌}
+use mathlib.Core.Bool.{true, false}
 use mathlib.Core.List.{List, [], ◌∷◌, ◌++◌, append-nil}
 use mathlib.Core.Path.{◌≡◌, refl, sym, ap, ap₂, subst, ◌∙◌}
+use native.Mathlib.Decide.{ℕ_discrete}
 use native.Mathlib.Omega.{arith}
 use lib.ListN.{length, get_or, length-append}
+use Rattle.std.specs.Prelude.{Option, Some, IsSome, is_some}
 use Rattle.term.specs.Term.{Term, Args, var, app, nil, cons, size, sizes}
-use Rattle.term.specs.Root.{arguments}
+use Rattle.term.specs.Root.{symbol_of, arguments}
 use Rattle.term.specs.Replacement.{Replacement, replace, replace_all, Occurs, OccursIn, it, under, first, later}
 use Rattle.term.specs.Prefix.{prefix, prefixes}
-use Rattle.term.specs.At.{At, ArgsAt, none_at, and_at}
-use Rattle.term.proofs.At.{FirstAt, joined, at_end_lem, at_within, args_first, args_none, args_long, root_passed, symbol_root, variable_root}
+use Rattle.term.specs.At.{At, ArgsAt, none_at, and_at, Standing}
+use Rattle.term.proofs.At.{FirstAt, joined, at_root_lem, at_end_lem, at_within, args_first, args_none, args_long, root_passed, root_symbol, root_variable, symbol_root, variable_root}
 use Rattle.term.proofs.PrefixAt.{prefix_length}
-use Rattle.building.specs.Right.{TermAt}
-use Rattle.building.specs.Right.{Held}
+use Rattle.building.specs.Right.{start_of, TermAt, Held}
 use Rattle.building.specs.declared.Match.{Match}
 use Rattle.steps.proofs.Joined.{prefixes_joined, no_symbol, replace_all_joined, occurs_passed}
 
@@ -137,16 +139,8 @@ pub few_bytes :
 few_bytes {bytes} {arities} {table} {r} {σ} held short nodes =
     omega (arith, prefix_length (replace σ r), grows σ r λ x o. in_bytes (held.terms x o))
   where
-    in_bytes : {u : ℕ} {t : Term} → TermAt bytes arities u t → size t ≤ 256
-    in_bytes (e, h) = omega (arith, at_end_lem h, at_within h)
-
--- A term at a place that goes by another name, up to the end that was found there.
-pub found_at :
-    {bytes arities : List ℕ} {u : ℕ} {t : Term} (u' e' : ℕ) → TermAt bytes arities u t → u' ≡ u →
-    ((s : Term) (e : ℕ) → At bytes arities u' s e → e' ≡ e) → At bytes arities u' t e'
-found_at {bytes} {arities} {t = t} u' e' (e, h) p told =
-    let moved = subst (λ u. At bytes arities u t e) (sym p) h in
-    subst (λ n. At bytes arities u' t n) (sym (told t e moved)) moved
+    in_bytes : {o : Option ℕ} {t : Term} → TermAt bytes arities o t → size t ≤ 256
+    in_bytes there = omega (arith, at_end_lem there.stands, at_within there.stands)
 
 -- So many bytes were counted of those that the right side has under σ.
 pub record Counted (book arities : List ℕ) (r : Term) (σ : Replacement) (d right total : ℕ) : Type 0 where
@@ -192,3 +186,48 @@ pub counted_as :
     {book arities : List ℕ} {r : Term} {σ : Replacement} {d right total total' : ℕ} → total' ≡ total → Counted book arities r σ d right total →
     Counted book arities r σ d right total'
 counted_as {book} {arities} {r} {σ} {d} {right} p counted = subst (λ n. Counted book arities r σ d right n) (sym p) counted
+
+-- At a node: it stands in the book, and the number of a variable is the number of a start.
+module _ {book arities : List ℕ} {r : Term} {σ : Replacement} {d right : ℕ} {rest : List ℕ} (ahead : Ahead book arities r σ d right rest) (p : right < d) where
+  pub right_there : right + 1 < length book
+  right_there = at_root_lem (node ahead p).first_stands
+
+  pub node_stands : Standing book arities right
+  node_stands = record { term = (node ahead p).first; behind = (node ahead p).behind; stands = (node ahead p).first_stands }
+
+  -- Whether it is a symbol, by what its root was found to be.
+  module _ {root : Option ℕ} (told : (t : Term) (e : ℕ) → At book arities right t e → root ≡ symbol_of t) where
+    pub is_variable : false ≡ is_some root → get_or book right 0 ≡ 3 → ⊥
+    is_variable q k = cc (ap is_some (told _ _ (node ahead p).first_stands ∙ root_symbol (node ahead p).first_stands k))
+
+    pub is_symbol : true ≡ is_some root → get_or book right 0 ≡ 3
+    is_symbol q = go (ℕ_discrete (get_or book right 0) 3)
+      where
+        go : Dec (get_or book right 0 ≡ 3) → get_or book right 0 ≡ 3
+        go (yes k) = k
+        go (no n) = absurd (cc (ap is_some (told _ _ (node ahead p).first_stands ∙ root_variable (node ahead p).first_stands n)))
+
+  module _
+      {bytes : List ℕ} {table : Match} (held : Held bytes arities table r σ) {root : Option ℕ}
+      (told : (t : Term) (e : ℕ) → At book arities right t e → root ≡ symbol_of t) (variable : false ≡ is_some root) {number : ℕ}
+      (read : number ≡ get_or book (right + 1) 0) where
+    occurs : Occurs number r
+    occurs = rw read (variable_ahead ahead p (is_variable told variable)).occurs
+
+    pub small : number < 16
+    small = held.small number occurs
+
+    pub bound_there : IsSome (start_of table number)
+    bound_there = rw (held.terms number occurs).bound refl
+
+    -- From the start on its term stands, up to the end that was found.
+    module _ {start : ℕ} (from : start_of table number ≡ Some start) where
+      pub term_there : Standing bytes arities start
+      term_there =
+          let there = held.terms number occurs in
+          let same : there.place ≡ start = cc in
+          record { term = σ number; behind = there.behind; stands = rw (← same) there.stands }
+
+      pub term_found : {end : ℕ} → ((t : Term) (e : ℕ) → At bytes arities start t e → end ≡ e) → At bytes arities start (σ (get_or book (right + 1) 0)) end
+      unfolding term_there
+      term_found told = rw (← read, told term_there.term term_there.behind term_there.stands) term_there.stands

@@ -17,7 +17,7 @@ use Rattle.building.proofs.build.Reads as build
 
 -- The length of a right side under a match.
 pub right_length_settled :
-    (κs : Lfts 2) (a : Dens κs length_kinds.ps) (r r' : ℕ) (e e' : AtExit (ended_of 2 length_kinds.ps length_kinds.r) κs) →
+    (κs : Lfts 4) (a : Dens κs length_kinds.ps) (r r' : ℕ) (e e' : AtExit (ended_of 4 length_kinds.ps length_kinds.r) κs) →
     right_length.Pre κs a → right_length.Post κs a r e → right_length.Post κs a r' e' → r ≡ r'
 right_length_settled κs a r r' e e' (here, short) p p' =
     p here.right here.replacement here.stands here.held ∙ sym (p' here.right here.replacement here.stands here.held)
@@ -35,7 +35,7 @@ built_once {end = end} {end' = end'} {before = before} {after = after} {after' =
     )
 
 pub build_settled :
-    (κs : Lfts 3) (a : Dens κs build_kinds.ps) (r r' : ℕ) (e e' : AtExit (ended_of 3 build_kinds.ps build_kinds.r) κs) →
-    build.Pre κs a → build.Post κs a r e → build.Post κs a r' e' → (r ≡ r') × (e.1.1.1.1.1.1.0.now ≡ e'.1.1.1.1.1.1.0.now)
+    (κs : Lfts 5) (a : Dens κs build_kinds.ps) (r r' : ℕ) (e e' : AtExit (ended_of 5 build_kinds.ps build_kinds.r) κs) →
+    build.Pre κs a → build.Post κs a r e → build.Post κs a r' e' → (r ≡ r') × (e.1.1.1.1.1.0.now ≡ e'.1.1.1.1.1.0.now)
 build_settled κs a r r' e e' (here, rest) p p' =
     built_once (p here.right here.replacement here.stands here.held) (p' here.right here.replacement here.stands here.held)

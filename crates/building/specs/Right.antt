@@ -1,5 +1,5 @@
 -- A right side under a match: its variables' terms are those that stand where the table says.
-use Rattle.std.specs.Prelude.{ℕ, ◌+◌, ◌-◌, ◌<◌, ◌≤◌, List, ◌++◌, ◌≡◌, length, get_or, take, drop}
+use Rattle.std.specs.Prelude.{ℕ, ◌+◌, ◌-◌, ◌<◌, ◌≤◌, List, ◌++◌, ◌≡◌, length, get_or, take, drop, Option, Some, None}
 use Rattle.term.specs.Term.{Term, size}
 use Rattle.term.specs.Replacement.{Replacement, Occurs, replace}
 use Rattle.term.specs.Prefix.{prefix}
@@ -7,13 +7,16 @@ use Rattle.term.specs.At.{At}
 use Rattle.building.specs.declared.Match.{Match}
 use Rattle.building.specs.declared.Place.{Place}
 
--- Where the term of variable x starts.
-abbrev pub start_of : Match → (x : ℕ) → ℕ
-start_of table x = get_or table.starts x 0
+-- Where the term of variable x starts, if it is bound.
+abbrev pub start_of : Match → (x : ℕ) → Option ℕ
+start_of table x = get_or table.starts x None
 
--- The term t stands at u.
-abbrev pub TermAt : (bytes arities : List ℕ) (u : ℕ) → Term → Type 0
-TermAt bytes arities u t = (e : ℕ) × At bytes arities u t e
+-- There is such a place, and the term t stands at it.
+pub record TermAt (bytes arities : List ℕ) (u : Option ℕ) (t : Term) : Type 0 where
+  pub place : ℕ
+  pub bound : u ≡ Some place
+  pub behind : ℕ
+  pub stands : At bytes arities place t behind
 
 -- The term that replaces each variable stands at its place.
 pub record Held (bytes arities : List ℕ) (table : Match) (right : Term) (σ : Replacement) : Type 0 where

@@ -5,56 +5,55 @@ ghost use Rattle.std.specs.Prelude.{◌≡◌, ◌≤◌, length};
 ghost use Rattle.term.specs.Prefix.{prefix};
 ghost use Rattle.building.specs.Right.{RightAt, UnderMatch, FitsBehind, LaidBehind, Within, Built, BuiltFits};
 
+use term::Terms;
 use text::wide;
 
-// "A table of 16 places, one for each variable, holds the match": where each variable's term starts in the bytes, and which
-// variables are bound.
+// "A table of 16 places, one for each variable, holds the match": where each variable's term starts in the bytes, if it is bound.
 #[derive(Clone, Copy)]
 pub struct Match {
-    pub fits: bool,
-    pub starts: [usize; 16],
-    pub bound: [bool; 16],
+    pub starts: [Option<usize>; 16],
 }
 
-// A rule with its match; the table says whether it fits.
-#[derive(Drop)]
+// A rule that fits, with its match.
+#[derive(Clone, Copy)]
 pub struct Fit {
     pub rule: usize,
     pub table: Match,
 }
 
 // A subterm of the record, from `at` to `end`, and the rule that fits it.
-#[derive(Drop)]
+#[derive(Clone, Copy)]
 pub struct Place {
     pub at: usize,
     pub end: usize,
     pub fit: Fit,
 }
 
-// How many bytes the right side from right_at to right_end has under the match.
+// How many bytes the right side from right_at to right_end has under the match. Its two ends and no slice: RightAt and UnderMatch speak of a
+// side by its places in the book.
 pub fn right_length(
     book: &[u8],
     right_at: usize,
     right_end: usize,
-    bytes: &[u8],
-    arities: [u8; 16],
-    table: Match,
+    terms: &Terms,
+    table: &Match,
 ) -> usize
-    requires right_at { RightAt book.now bytes.now arities table right_at right_end }
-    requires bytes_len_bound { length bytes.now ≤ 512 }
-    ensures { UnderMatch book.now bytes.now arities table right_at right_end (λ t. result ≡ length (prefix t)) }
+    requires right_at { RightAt book.now terms.now.bytes.now terms.now.arities table.now right_at right_end }
+    requires bytes_len_bound { length terms.now.bytes.now ≤ 512 }
+    ensures { UnderMatch book.now terms.now.bytes.now terms.now.arities table.now right_at right_end (λ t. result ≡ length (prefix t)) }
 {
-    let mut right = right_at;
+    let rights = Terms {
+        bytes: book,
+        arities: terms.arities,
+    };
     let mut total: usize = 0;
-    while right < right_end {
-        if book[right] == 3 {
+    for right in (right_at..right_end).step_by(2) {
+        if rights.symbol_at(right).is_some() {
             total += 2;
         } else {
-            let x = wide(book[right + 1]);
-            let start = table.starts[x];
-            total += term::end_of(bytes, arities, start) - start;
+            let start = table.starts[wide(book[right + 1])].unwrap();
+            total += terms.end_of(start) - start;
         }
-        right += 2;
     }
     total
 }
@@ -65,31 +64,29 @@ fn lay(
     book: &[u8],
     right_at: usize,
     right_end: usize,
-    bytes: &[u8],
-    arities: [u8; 16],
-    table: Match,
+    terms: &Terms,
+    table: &Match,
     out: &mut [u8],
     at: usize,
 ) -> usize
-    requires right_at { RightAt book.now bytes.now arities table right_at right_end }
-    requires under_match { UnderMatch book.now bytes.now arities table right_at right_end (FitsBehind at (length out.old)) }
-    ensures { UnderMatch book.now bytes.now arities table right_at right_end
+    requires right_at { RightAt book.now terms.now.bytes.now terms.now.arities table.now right_at right_end }
+    requires under_match { UnderMatch book.now terms.now.bytes.now terms.now.arities table.now right_at right_end
+        (FitsBehind at (length out.old)) }
+    ensures { UnderMatch book.now terms.now.bytes.now terms.now.arities table.now right_at right_end
         (LaidBehind at result out.old out.new) }
 {
-    let mut right = right_at;
+    let rights = Terms {
+        bytes: book,
+        arities: terms.arities,
+    };
     let mut end = at;
-    while right < right_end {
-        if book[right] == 3 {
-            out[end] = 3;
-            out[end + 1] = book[right + 1];
-            end += 2;
+    for right in (right_at..right_end).step_by(2) {
+        if rights.symbol_at(right).is_some() {
+            end += term::copy(book, right, right + 2, &mut out[end..]);
         } else {
-            let x = wide(book[right + 1]);
-            let start = table.starts[x];
-            let behind = term::end_of(bytes, arities, start);
-            end += term::copy(bytes, start, behind, &mut out[end..]);
+            let start = table.starts[wide(book[right + 1])].unwrap();
+            end += term::copy(terms.bytes, start, terms.end_of(start), &mut out[end..]);
         }
-        right += 2;
     }
     end
 }
@@ -100,21 +97,27 @@ pub fn build(
     book: &[u8],
     right_at: usize,
     right_end: usize,
-    bytes: &[u8],
-    arities: [u8; 16],
-    place: Place,
+    terms: &Terms,
+    place: &Place,
     out: &mut [u8],
 ) -> usize
-    requires right_at { RightAt book.now bytes.now arities place.fit.table right_at right_end }
-    requires within { Within bytes.now place }
-    requires under_match { UnderMatch book.now bytes.now arities place.fit.table right_at right_end (BuiltFits bytes.now place (length out.old)) }
-    ensures { UnderMatch book.now bytes.now arities place.fit.table right_at right_end
-        (Built bytes.now place result out.old out.new) }
+    requires right_at { RightAt book.now terms.now.bytes.now terms.now.arities place.now.fit.table right_at right_end }
+    requires within { Within terms.now.bytes.now place.now }
+    requires under_match { UnderMatch book.now terms.now.bytes.now terms.now.arities place.now.fit.table right_at right_end
+        (BuiltFits terms.now.bytes.now place.now (length out.old)) }
+    ensures { UnderMatch book.now terms.now.bytes.now terms.now.arities place.now.fit.table right_at right_end
+        (Built terms.now.bytes.now place.now result out.old out.new) }
 {
-    let at = place.at;
-    let behind = place.end;
-    let table = place.fit.table;
-    term::copy(bytes, 0, at, out);
-    let end = lay(book, right_at, right_end, bytes, arities, table, out, at);
-    end + term::copy(bytes, behind, bytes.len(), &mut out[end..])
+    let bytes = terms.bytes;
+    term::copy(bytes, 0, place.at, out);
+    let end = lay(
+        book,
+        right_at,
+        right_end,
+        terms,
+        &place.fit.table,
+        out,
+        place.at,
+    );
+    end + term::copy(bytes, place.end, bytes.len(), &mut out[end..])
 }

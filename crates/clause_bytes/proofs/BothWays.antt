@@ -4,12 +4,12 @@ use Prim.Native.Nat.{ℕ, ◌≤◌, ◌<◌}
 use mathlib.Core.List.{List, [], ◌∷◌, ◌++◌, map, flat_map, append_assoc, append-nil}
 use mathlib.Core.Path.{◌≡◌, refl, ap, sym, ◌∙◌}
 use native.Mathlib.Omega.{arith}
-use lib.ListN.{length, take, length-take}
+use lib.ListN.{length, length-take}
 use Rattle.clauses.specs.Cnf.{Literal, is, is_not}
 use Rattle.clauses.specs.Wholes.{all_parts, some_parts}
 use Rattle.clauses.specs.File.{literal_bytes, clause_bytes}
 use Rattle.clause_bytes.specs.Meaning.{parts_in, against, part_clauses, both_ways}
-use Rattle.clause_bytes.specs.declared.parts.Parts.{Parts}
+use Rattle.clause_bytes.specs.declared.gathering.Parts.{Parts}
 use Rattle.clause_bytes.proofs.Laid.{clause_cons}
 use Rattle.text.proofs.Each.{flat_map_append}
 
@@ -33,14 +33,11 @@ pub some_parts_both : (whole : ℕ) (parts : List ℕ) → some_parts whole part
 unfolding some_parts both_ways part_clauses against
 some_parts_both whole parts = refl
 
--- How many parts a value holds, in the cases that `all_parts` parts.
-pub all_parts_none :
-    (whole many : ℕ) (of : List ℕ) → many ≡ 0 → clause_bytes (is_not whole ∷ []) ≡ flat_map clause_bytes (all_parts whole (take many of))
+-- No parts.
+pub all_parts_none : (whole : ℕ) (parts : List ℕ) → length parts ≡ 0 → clause_bytes (is_not whole ∷ []) ≡ flat_map clause_bytes (all_parts whole parts)
 unfolding all_parts flat_map
-all_parts_none whole many of e = rw e (sym (append-nil (clause_bytes (is_not whole ∷ []))))
-
-pub some_taken : (many : ℕ) (of : List ℕ) → (many ≡ 0 → ⊥) → length of ≡ 8 → 0 < length (take many of)
-some_taken many of ne h = rw length-take (omega arith)
+all_parts_none whole [] h = sym (append-nil (clause_bytes (is_not whole ∷ [])))
+all_parts_none whole (q ∷ qs) h = absurd (omega arith)
 
 -- As many parts as the value says.
 pub parts_counted : (p : Parts) {parts : List ℕ} → p.many ≤ 8 → length p.of ≡ 8 → parts_in p ≡ parts → length parts ≡ p.many

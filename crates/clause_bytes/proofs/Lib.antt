@@ -1,3 +1,4 @@
+pub mod EachLaid
 pub mod Laid
 pub mod BothWays
 pub mod Settled

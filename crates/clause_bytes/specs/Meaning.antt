@@ -4,7 +4,7 @@ use Rattle.clauses.specs.Cnf.{is, is_not, Clause}
 use Rattle.clauses.specs.Cnf as Cnf
 use Rattle.clause_bytes.specs.declared.writing.Literal.{Literal}
 use Rattle.clause_bytes.specs.declared.writing.Literal.TheVariants.{Is, IsNot}
-use Rattle.clause_bytes.specs.declared.parts.Parts.{Parts}
+use Rattle.clause_bytes.specs.declared.gathering.Parts.{Parts}
 
 -- The literal that a value stands for.
 unfoldable pub meant : Literal → Cnf.Literal

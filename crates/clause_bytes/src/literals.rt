@@ -8,7 +8,7 @@ ghost use Rattle.clauses.specs.File.{literal_bytes};
 ghost use Rattle.clause_bytes.specs.Meaning.{meant};
 
 use crate::writing::Literal;
-use text::writing::{write_byte, write_decimal};
+use text::writing::{write_byte, write_decimal, write_text};
 
 // A number and "a space after": a variable that is no negation.
 pub fn write_variable(v: usize, out: &mut [u8]) -> usize
@@ -19,6 +19,7 @@ pub fn write_variable(v: usize, out: &mut [u8]) -> usize
 }
 
 // A literal: a minus if it is a negation, the variable's number and a space.
+#[tactic(auto, unfolding(crate::specs::Meaning::meant, clauses::specs::File::literal_bytes, text::specs::Text::ascii), using(text::proofs::Laying::lays_then))]
 pub fn write_literal(l: Literal, out: &mut [u8]) -> usize
     ensures { Lays (literal_bytes (meant l)) out.old result out.new }
 {
@@ -32,9 +33,9 @@ pub fn write_literal(l: Literal, out: &mut [u8]) -> usize
 }
 
 // The end of a clause, "then 0 and a newline".
+#[tactic(auto, unfolding(text::specs::Text::ascii))]
 pub fn write_clause_end(out: &mut [u8]) -> usize
     ensures { Lays (ascii "0\n") out.old result out.new }
 {
-    let at = write_byte(b'0', out);
-    at + write_byte(b'\n', &mut out[at..])
+    write_text(b"0\n", out)
 }

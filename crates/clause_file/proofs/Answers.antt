@@ -2,19 +2,17 @@
 use Prim.Native.Nat.{ℕ, ◌≤◌, ◌<◌}
 use mathlib.Core.List.{List, [], flat_map}
 use mathlib.Core.Option.{Option, none, some}
-use mathlib.Core.Path.{◌≡◌, refl, sym, ap, ◌∙◌}
+use mathlib.Core.Path.{◌≡◌, refl}
 use native.Mathlib.Decide.{dec_lt}
 use native.Mathlib.Omega.{arith}
 use lib.ListN.{length, drop, get_elem?, length-map}
+use Rattle.std.specs.Prelude.{Ok, Err}
 use Rattle.reply.specs.Reply.{Refusal, Reply, given, refused}
-use Rattle.reply.specs.Refusals.{numbered}
+use Rattle.reply.specs.Replied.{replied}
 use Rattle.reply.specs.declared.Refusal.{Refusal as Named}
 use Rattle.reply.specs.Lent.{laid, length_of}
 use Rattle.book.specs.Book.{Book}
 use Rattle.clauses.specs.File.{clause_bytes, file_blocks, block_of}
-use Rattle.blocks.specs.Written.{written_meaning}
-use Rattle.blocks.specs.declared.Written.{Written}
-use Rattle.blocks.specs.declared.Written.TheVariants.{Laid, Refused}
 use Rattle.book.specs.Limits.{WithinLimits}
 use Rattle.clauses.proofs.Counts.{blocks_counted}
 use Rattle.clauses.specs.Blocks.{blocks}
@@ -22,18 +20,10 @@ use Rattle.clauses.proofs.BlockReply.{no_block, short_room, its_text}
 use Rattle.clause_file.specs.Filling.{fitting}
 use Rattle.clause_file.proofs.Fitting.{fitting_short, fitting_none}
 
--- An answer other than a length is a refusal.
-pub record Refuses (r : Written) : Type 0 where
-  pub why : Refusal
-  pub means : written_meaning r ≡ refused why
-
-pub refuses : (r : Written) (why : Named) → r ≡ Refused why → Refuses r
-unfolding written_meaning
-refuses r why is = record { why = numbered why; means = ap written_meaning is }
-
 -- A refusal lays nothing.
-pub nothing_laid : (x : Reply (List ℕ)) (why : Refusal) {buffer after : List ℕ} → refused why ≡ length_of x → after ≡ laid x buffer → after ≡ buffer
-unfolding length_of laid
+pub nothing_laid :
+    (x : Reply (List ℕ)) (why : Named) {buffer after : List ℕ} → replied {A = ℕ} (Err why) ≡ length_of x → after ≡ laid x buffer → after ≡ buffer
+unfolding replied length_of laid
 nothing_laid (given bytes) why e f = let z : ◌≡◌ {A = ℕ} 0 1 = cc in absurd (omega arith)
 nothing_laid (refused r) why e f = f
 
@@ -46,13 +36,10 @@ pub record TextAt (book : Book) (number room many : ℕ) : Type 0 where
   pub reply : block_of book number room ≡ given text
 
 module _ (book : Book) (number room : ℕ) where
-  pub text_at : (r : Written) {many : ℕ} → r ≡ Laid many → written_meaning r ≡ length_of (block_of book number room) → TextAt book number room many
-  unfolding length_of written_meaning
-  text_at r {many} is means = go (get_elem? (file_blocks book) number) refl
+  pub text_at : (many : ℕ) → replied (Ok many) ≡ length_of (block_of book number room) → TextAt book number room many
+  unfolding replied length_of
+  text_at many e = go (get_elem? (file_blocks book) number) refl
     where
-      e : given many ≡ length_of (block_of book number room)
-      e = ap written_meaning (sym is) ∙ means
-
       refusal : {why : Refusal} → block_of book number room ≡ refused why → ⊥
       refusal r = let z : ◌≡◌ {A = ℕ} 0 1 = cc in omega arith
 
@@ -66,8 +53,9 @@ module _ (book : Book) (number room : ℕ) where
                 record { text = text; there = f; enough = omega arith; all = cc; reply = reply }
           ]
 
-  pub none_fits : (why : Refusal) → refused why ≡ length_of (block_of book number room) → fitting room (drop number (file_blocks book)) ≡ []
-  unfolding length_of
+  pub none_fits :
+      (why : Named) → replied {A = ℕ} (Err why) ≡ length_of (block_of book number room) → fitting room (drop number (file_blocks book)) ≡ []
+  unfolding replied length_of
   none_fits why e = go (get_elem? (file_blocks book) number) refl
     where
       given_not : {text : List ℕ} → block_of book number room ≡ given text → ⊥

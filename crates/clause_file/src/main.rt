@@ -1,17 +1,14 @@
 // The clause program: reads a book from standard input and prints all blocks of its clause file, or the one line `refused N at P`.
 #![tactic(auto)]
 
-mod input;
-
 ghost use Rattle.std.specs.Prelude.{◌≡◌, ◌≤◌, length, drop, IfOk};
-ghost use Rattle.book.specs.Meaning.{book_at};
+ghost use Rattle.book.specs.BookOf.{book_of};
 ghost use Rattle.clauses.specs.File.{file_blocks};
-ghost use Rattle.book.specs.WasRead.{ReadFrom};
 ghost use Rattle.clause_file.specs.Filling.{fitting, FilledWith};
 
-use blocks::Written;
 use blocks::writing::write_read_block;
-use book::{Book, BookVerdict};
+use book::read::ReadBook;
+use full_read::read_full;
 use reply::Refusal;
 use reply_lines::write_refused;
 use std::io;
@@ -24,38 +21,33 @@ pub struct Filled {
 }
 
 // Lays blocks one behind another, from this number on, as long as there are blocks and 512 bytes of room.
-fn fill(bytes: &[u8], book: Book, first: usize, out: &mut [u8]) -> Filled
-    requires { ReadFrom bytes.now book }
-    ensures { FilledWith (fitting (length out.old) (drop first (file_blocks (book_at bytes.now book)))) first result
+fn fill(book: &ReadBook, first: usize, out: &mut [u8]) -> Filled
+    ensures { FilledWith (fitting (length out.old) (drop first (file_blocks (book_of book.now)))) first result
         out.old out.new }
 {
     let mut at = 0;
     let mut next = first;
-    loop {
-        let written = write_read_block(bytes, book, next, &mut out[at..]);
-        let Written::Laid(length) = written else {
-            return Filled { length: at, next };
-        };
+    // No range: where the blocks end only the call tells.
+    while let Ok(length) = write_read_block(book, next, &mut out[at..]) {
         at += length;
         next += 1;
     }
+    Filled { length: at, next }
 }
 
 // Prints all blocks, a buffer at a time, and answers how many they are.
-fn print_file(rt: &impl Print, bytes: &[u8], book: Book, out: &mut [u8]) -> io::Result<usize>
-    requires read_from { ReadFrom bytes.now book }
-    requires in_bounds { 512 ≤ length out.old }
-    ensures { IfOk result (λ many. many ≡ length (file_blocks (book_at bytes.now book))) }
+fn print_file(rt: &impl Print, book: &ReadBook, out: &mut [u8]) -> io::Result<usize>
+    requires { 512 ≤ length out.old }
+    ensures { IfOk result (λ many. many ≡ length (file_blocks (book_of book.now))) }
 {
     let mut number = 0;
+    // No range: a buffer that stays empty is the end, and each is printed before the next is laid.
     loop {
-        let filled = fill(bytes, book, number, out);
-        let ended = filled.next == number;
-        if ended {
+        let filled = fill(book, number, out);
+        if filled.next == number {
             return Ok(number);
         }
-        let length = filled.length;
-        rt.write_all(&out[..length])?;
+        rt.write_all(&out[..filled.length])?;
         number = filled.next;
     }
 }
@@ -67,21 +59,17 @@ fn print_refused(rt: &impl Print, refusal: Refusal) -> io::Result<()> {
     rt.write_all(&out[..n])
 }
 
-fn print_blocks(rt: &impl Print, bytes: &[u8], book: Book) -> io::Result<()>
-    requires { ReadFrom bytes.now book }
-{
+fn print_blocks(rt: &impl Print, book: &ReadBook) -> io::Result<()> {
     let mut out = [0u8; 65536];
-    print_file(rt, bytes, book, &mut out)?;
+    print_file(rt, book, &mut out)?;
     Ok(())
 }
 
 // What is printed for the bytes of a book.
 fn print_for(rt: &impl Print, bytes: &[u8]) -> io::Result<()> {
-    let read = book::read_book(bytes);
-    let verdict = read.verdict;
-    match verdict {
-        BookVerdict::Readable => print_blocks(rt, bytes, read.book),
-        BookVerdict::Refused(refusal) => print_refused(rt, refusal),
+    match book::read_book(bytes) {
+        Ok(places) => print_blocks(rt, &ReadBook { bytes, places }),
+        Err(refusal) => print_refused(rt, refusal),
     }
 }
 
@@ -89,6 +77,6 @@ fn print_for(rt: &impl Print, bytes: &[u8]) -> io::Result<()> {
 // bytes decide what is printed (proofs/LongestBook, `first_bytes_printed`).
 fn main(rt: HostRuntime) -> io::Result<()> {
     let mut bytes = [0u8; 1346];
-    let length = input::read_full(&mut rt.stdin(), &mut bytes)?;
+    let length = read_full(&mut rt.stdin(), &mut bytes)?;
     print_for(&rt, &bytes[..length])
 }

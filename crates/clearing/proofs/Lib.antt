@@ -1,4 +1,4 @@
 pub mod Lowest
-pub mod Filled
+pub mod Rules
 pub mod Verdicts
 pub mod Settled

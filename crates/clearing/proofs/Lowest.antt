@@ -8,11 +8,15 @@ use native.Mathlib.Numerals.{add-one}
 use lib.ListN.{length, get_or, drop, drop_of_length-le}
 use lib.Seq.{drop-cons}
 use Rattle.reply.specs.Reply.{Reply, given, refused, unless, ◌>>◌, ◌at◌}
-use Rattle.term.specs.Term.{Term}
+use Rattle.term.specs.Term.{Term, var}
 use Rattle.book.specs.Book.{Rule}
 use Rattle.order.specs.Clearing.{decreases, all_decrease}
 
-module _ (exceeds : Term → Term → Bool) (rules : List Rule) (other : Rule) where
+-- What stands for a rule past the end of the list.
+pub other : Rule
+other = record { left = var 0; right = var 0 }
+
+module _ (exceeds : Term → Term → Bool) (rules : List Rule) where
   -- What the rules from i on reply.
   pub from : (i : ℕ) → Reply (Unit {0})
   from i = all_decrease exceeds i (drop i rules)

@@ -1,3 +1,4 @@
 pub mod Stepwise
 pub mod Compared
+pub mod Nodes
 pub mod Settled

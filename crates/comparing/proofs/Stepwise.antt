@@ -3,40 +3,36 @@
 use Prim.Native.Nat.{ℕ}
 use mathlib.Core.Bool.{Bool, true, false, ◌&&◌, ◌||◌, or-false, or-true}
 use mathlib.Core.List.{List}
-use mathlib.Core.Path.{◌≡◌, refl, sym, ap, subst, ◌∙◌}
+use mathlib.Core.Path.{◌≡◌, refl, ap, subst, ◌∙◌}
 use native.Mathlib.Omega.{arith}
-use lib.Dec.{T, eqb}
+use lib.Dec.{eqb}
 use lib.ListN.{get_or}
 use borrow.Author.Tests.{eq-eqb, ne_eqb}
+use Rattle.std.specs.Prelude.{None}
+use Rattle.std.proofs.lemmas.Bool.{false_from_ne_true}
+use Rattle.std.proofs.lemmas.Float.{T_from_true}
+use Rattle.std.proofs.lemmas.Option.{none-some}
 use Rattle.term.specs.Term.{Term, Args, var, app, nil, cons, count, same}
 use Rattle.term.proofs.Same.{same→identical}
 use Rattle.order.specs.Precedence.{Above, above}
 use Rattle.order.specs.Test.{every_arg, some_arg, decrease_at, reaches, case1_holds, case2_holds, case3_holds, at_root, exceeds}
-use Rattle.comparing.specs.Compared.{root_of}
-use Rattle.comparing.specs.declared.Root.TheVariants.{Variable}
+use Rattle.term.specs.Root.{symbol_of}
 use Rattle.order.proofs.Decides.{above_decides, exceeds_decides, exceeds_root, exceeds_var}
 use Rattle.order.proofs.PathOrder.{exceeds_irreflexive}
 
--- A test that cannot hold is false.
-never : (b : Bool) → (T b → ⊥) → b ≡ false
-never true h = absurd (h tt)
-never false h = refl
-
-holds : {b : Bool} → b ≡ true → T b
-holds e = subst T (sym e) tt
-
 pub identical : (a b : Term) → same a b ≡ true → a ≡ b
-identical a b e = same→identical a b (holds e)
+identical a b e = same→identical a b (T_from_true (same a b) e)
 
 module _ (ranks : List ℕ) where
   above_another : (f g : ℕ) → above ranks f g ≡ true → f ≡ g → ⊥
   unfolding Above
-  above_another f g h p = let l = (above_decides ranks f g).0 (holds h) in let q = ap (λ (k : ℕ). get_or ranks k 0) p in omega arith
+  above_another f g h p = let l = (above_decides ranks f g).0 (T_from_true (above ranks f g) h) in let q = ap (λ (k : ℕ). get_or ranks k 0) p in omega arith
 
   identical_does_not_exceed : (a b : Term) → same a b ≡ true → exceeds ranks a b ≡ false
   identical_does_not_exceed a b e =
       subst (λ (u : Term). exceeds ranks a u ≡ false) (identical a b e)
-      (never (exceeds ranks a a) (λ h. exceeds_irreflexive ranks a ((exceeds_decides ranks a a).0 h)))
+      (false_from_ne_true (exceeds ranks a a)
+      (λ h. exceeds_irreflexive ranks a ((exceeds_decides ranks a a).0 (T_from_true (exceeds ranks a a) h))))
 
   -- (3), argument by argument.
   pub some_none : {ss : Args} → ss ≡ nil → (t : Term) → case3_holds (exceeds ranks) ss t ≡ false
@@ -104,9 +100,10 @@ module _ (ranks : List ℕ) where
     decrease_fails e h = rw (left, right, decrease_at, e, h)
 
   -- The cases at a root.
-  pub variable_exceeds_nothing : (s t : Term) → root_of s ≡ Variable → exceeds ranks s t ≡ false
+  pub variable_exceeds_nothing : (s t : Term) → None ≡ symbol_of s → exceeds ranks s t ≡ false
+  unfolding symbol_of
   variable_exceeds_nothing (var x) t e = exceeds_var ranks x t
-  variable_exceeds_nothing (app f ss) t e = let z : ◌≡◌ {A = ℕ} 0 1 = cc in absurd (omega arith)
+  variable_exceeds_nothing (app f ss) t e = absurd (none-some f e)
 
   module _ {s : Term} {f : ℕ} {ss : Args} (left : s ≡ app f ss) where
     at_left : (t : Term) → exceeds ranks s t ≡ at_root (above ranks) (exceeds ranks) f ss t
@@ -117,10 +114,10 @@ module _ (ranks : List ℕ) where
     root_reaches t e =
         at_left t ∙ rw e (or-true (case1_holds (exceeds ranks) f ss t || case2_holds (above ranks) (exceeds ranks) f ss t))
 
-    pub root_variable : (t : Term) → root_of t ≡ Variable → case3_holds (exceeds ranks) ss t ≡ false → exceeds ranks s t ≡ false
-    unfolding at_root case1_holds case2_holds case3_holds
+    pub root_variable : (t : Term) → None ≡ symbol_of t → case3_holds (exceeds ranks) ss t ≡ false → exceeds ranks s t ≡ false
+    unfolding symbol_of at_root case1_holds case2_holds case3_holds
     root_variable (var y) v e = at_left (var y) ∙ e
-    root_variable (app g ts) v e = let z : ◌≡◌ {A = ℕ} 0 1 = cc in absurd (omega arith)
+    root_variable (app g ts) v e = absurd (none-some g v)
 
     module _ {t : Term} {g : ℕ} {ts : Args} (right : t ≡ app g ts) (e : case3_holds (exceeds ranks) ss t ≡ false) where
       two_roots :

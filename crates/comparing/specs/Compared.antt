@@ -1,41 +1,37 @@
 -- The order on terms that stand in bytes: what a comparison asks of its places, and what it promises of them.
-use Rattle.std.specs.Prelude.{ℕ, ◌≤◌, Bool, List, ◌≡◌}
-use Rattle.term.specs.Term.{Term, Args, var, app, size, sizes, count, same}
-use Rattle.term.specs.At.{At, ArgsAt}
+use Rattle.std.specs.Prelude.{ℕ, ◌<◌, ◌≤◌, Bool, List, ◌≡◌, Option, Some, None, get_or}
+use Rattle.term.specs.Term.{Term, Args, app, size, sizes}
+use Rattle.term.specs.Root.{symbol_of, arguments}
+use Rattle.term.specs.At.{At, ArgsAt, Standing}
 use Rattle.comparing.specs.declared.Root.{Root}
-use Rattle.comparing.specs.declared.Root.TheVariants.{Variable, Symbol}
 use Rattle.order.specs.Test.{every_arg, decrease_at, case3_holds, exceeds}
 
--- The root of a term, a variable or a symbol with so many arguments, and of whatever term stands at a place.
-abbrev pub root_of : Term → Root
-root_of (var x) = Variable
-root_of (app f ts) = Symbol f (count ts)
+-- The root of whatever term stands at u: of a variable, none; else its symbol, which is declared, with the arguments that its arity says.
+pub record Rooted (bytes arities : List ℕ) (root : Root) (t : Term) (e : ℕ) : Type 0 where
+  pub parted : t ≡ app root.symbol (arguments t)
+  pub under : ArgsAt bytes arities root.many root.first (arguments t) e
 
-abbrev pub RootAt : (bytes arities : List ℕ) (u : ℕ) → Root → Type 0
-RootAt bytes arities u r = (t : Term) (e : ℕ) → At bytes arities u t e → r ≡ root_of t
+pub record RootIs (bytes arities : List ℕ) (u : ℕ) (root : Root) : Type 0 where
+  pub declared : root.symbol < 16
+  pub arity : root.many ≡ get_or arities root.symbol 0
+  pub parts : (t : Term) (e : ℕ) → At bytes arities u t e → Rooted bytes arities root t e
 
--- The answer is whether the terms that stand at two places are identical.
-abbrev pub SameAt : (bytes arities : List ℕ) (s t : ℕ) → Bool → Type 0
-SameAt bytes arities s t r = (a b : Term) (d e : ℕ) → At bytes arities s a d → At bytes arities t b e → r ≡ same a b
+abbrev pub RootAt : (bytes arities : List ℕ) (u : ℕ) → Option Root → Type 0
+RootAt bytes arities u None = (t : Term) (e : ℕ) → At bytes arities u t e → None ≡ symbol_of t
+RootAt bytes arities u (Some root) = RootIs bytes arities u root
 
--- A term of so many nodes stands at u.
-pub record SideAt (bytes arities : List ℕ) (u nodes : ℕ) : Type 0 where
-  pub term : Term
-  pub behind : ℕ
-  pub stands : At bytes arities u term behind
-  pub counted : size term ≡ nodes
-
--- So many terms, of at most so many nodes together, stand from u on.
-pub record ArgumentsAt (bytes arities : List ℕ) (many u nodes : ℕ) : Type 0 where
+-- So many terms stand from u on.
+pub record ArgumentsAt (bytes arities : List ℕ) (many u : ℕ) : Type 0 where
   pub terms : Args
   pub behind : ℕ
   pub stand : ArgsAt bytes arities many u terms behind
-  pub within : sizes terms ≤ nodes
 
 -- s, and so many of its arguments and of another term's, side by side.
-abbrev pub ListsAt : (bytes arities : List ℕ) (s s-nodes many ss ts ts-nodes : ℕ) → Type 0
-ListsAt bytes arities s s-nodes many ss ts ts-nodes =
-    SideAt bytes arities s s-nodes × ArgumentsAt bytes arities many ss s-nodes × ArgumentsAt bytes arities many ts ts-nodes
+pub record ListsAt (bytes arities : List ℕ) (s many ss ts : ℕ) : Type 0 where
+  pub term : Standing bytes arities s
+  pub lefts : ArgumentsAt bytes arities many ss
+  pub rights : ArgumentsAt bytes arities many ts
+  pub within : sizes lefts.terms ≤ size term.term
 
 -- The answer is the test's, whatever terms stand at the places.
 abbrev pub ExceedsAt : (bytes arities ranks : List ℕ) (s t : ℕ) → Bool → Type 0

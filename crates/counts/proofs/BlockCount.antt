@@ -4,10 +4,11 @@ use mathlib.Core.List.{List, [], ◌∷◌, flat_map}
 use mathlib.Core.Path.{◌≡◌, refl, sym, ap, ap₂, ◌∙◌}
 use native.Mathlib.Nat.{mul-suc}
 use native.Mathlib.Omega.{arith}
-use lib.ListN.{length, get_or, drop, drop_of_length-le, length-append, length-map}
+use lib.ListN.{length, drop, drop_of_length-le, length-append, length-map}
 use Rattle.term.specs.Tables.{rank_bits}
 use Rattle.term.specs.Term.{size}
 use Rattle.book.specs.Book.{Book, Rule, symbols}
+use Rattle.book.specs.Entries.{places_of}
 use Rattle.book.specs.Meaning.{book_at}
 use Rattle.book.specs.declared.Book.{Book as Places}
 use Rattle.clauses.specs.Numbering.{base_after, first_base}
@@ -59,7 +60,7 @@ count_starts b count is bytes read =
 
 pub count_goes_on :
     (b : Places) (count i : ℕ) → CountedTo b count i → i < b.rules → (count' : ℕ) →
-    count' ≡ count + (1 + get_or b.left_nodes i 0 * get_or b.right_nodes i 0) → CountedTo b count' (i + 1)
+    count' ≡ count + (1 + (places_of b i).left.nodes * (places_of b i).right.nodes) → CountedTo b count' (i + 1)
 unfolding blocks_of
 count_goes_on b count i known h count' is bytes read =
     let here = rule_next read i h in

@@ -6,12 +6,14 @@ use mathlib.Core.Path.{◌≡◌, sym, ap, ap₂, ◌∙◌}
 use native.Mathlib.Nat.{mul-le-mul}
 use native.Mathlib.Numerals.{add-one}
 use native.Mathlib.Omega.{arith}
-use lib.ListN.{length, get_or, drop, drop_of_length-le}
+use Rattle.std.proofs.lemmas.List.{get_or-take, length-take}
+use lib.ListN.{length, get_or, take, drop, drop_of_length-le}
 use lib.Seq.{drop-cons}
 use Rattle.term.specs.Tables.{rank_bits}
 use Rattle.term.specs.Term.{var, size}
 use Rattle.book.specs.Book.{Rule, symbols}
 use Rattle.book.specs.Limits.{WithinLimits}
+use Rattle.book.specs.Entries.{nowhere, places_of}
 use Rattle.book.specs.Meaning.{book_at}
 use Rattle.book.specs.Standing.{BookStands}
 use Rattle.book.specs.WasRead.{ReadFrom, WasRead}
@@ -34,13 +36,17 @@ module _ {bytes : List ℕ} {b : PlacedBook} (read : ReadFrom bytes b) where
   pub read_few_rules : b.rules ≤ 32
   read_few_rules = (read_stands read).few_rules
 
+-- Rule i among the places that are taken: those of the rules that were read.
+pub rule_taken : (b : PlacedBook) (i : ℕ) → i < length (take b.rules b.places) → (i < b.rules) × (get_or (take b.rules b.places) i nowhere ≡ places_of b i)
+rule_taken b i h = let below : i < b.rules = omega (arith, length-take b.rules b.places) in (below, get_or-take b.rules b.places i nowhere below)
+
 -- Rule i: the next of the list, with so many nodes on its sides, at most ten each.
 pub record RuleNext (bytes : List ℕ) (b : PlacedBook) (i : ℕ) : Type 0 where
   pub rule : Rule
   pub next : drop i (book_at bytes b).rules ≡ rule ∷ drop (i + 1) (book_at bytes b).rules
-  pub left : size rule.left ≡ get_or b.left_nodes i 0
-  pub right : size rule.right ≡ get_or b.right_nodes i 0
-  pub few : get_or b.left_nodes i 0 * get_or b.right_nodes i 0 ≤ 10 * 10
+  pub left : size rule.left ≡ (places_of b i).left.nodes
+  pub right : size rule.right ≡ (places_of b i).right.nodes
+  pub few : (places_of b i).left.nodes * (places_of b i).right.nodes ≤ 10 * 10
 
 pub rule_next : {bytes : List ℕ} {b : PlacedBook} → ReadFrom bytes b → (i : ℕ) → i < b.rules → RuleNext bytes b i
 rule_next {bytes} {b} read i h =
@@ -94,7 +100,7 @@ base_small {b} base i was known =
     )
 
 pub base_goes_on :
-    {b : PlacedBook} (base i : ℕ) → BaseAt b base i → i < b.rules → BaseAt b (base + 2 * (get_or b.left_nodes i 0 * get_or b.right_nodes i 0)) (i + 1)
+    {b : PlacedBook} (base i : ℕ) → BaseAt b base i → i < b.rules → BaseAt b (base + 2 * ((places_of b i).left.nodes * (places_of b i).right.nodes)) (i + 1)
 unfolding base_behind base_after
 base_goes_on {b} base i known h bytes read =
     let here = rule_next read i h in

@@ -9,35 +9,32 @@ ghost use Rattle.clauses.specs.File.{file_blocks};
 
 use book::Book;
 
-// "V the base after the last rule", "from n²·k on .. the base grows by 2|l||r| a rule".
-pub fn variables(book: Book) -> usize
-    requires { WasRead book }
-    ensures { (bytes : List ℕ) → ReadFrom bytes book → result ≡ «V» (book_at bytes book) }
+// "V the base after the last rule", "from n²·k on .. the base grows by 2|l||r| a rule". A `ReadBook` would ask a caller for the bytes too,
+// `WasRead` does not.
+#[tactic(auto, using(crate::proofs::ReadRules::read_few_rules))]
+pub fn variables(book: &Book) -> usize
+    requires { WasRead book.now }
+    ensures { (bytes : List ℕ) → ReadFrom bytes book.now → result ≡ «V» (book_at bytes book.now) }
 {
     let n = book.symbols;
-    let rules = book.rules;
     let bits = n * term::rank_bits(n);
     let mut base = n * bits;
-    let mut rule = 0;
-    while rule < rules {
-        base += 2 * (book.left_nodes[rule] * book.right_nodes[rule]);
-        rule += 1;
+    for rule in &book.places[..book.rules] {
+        base += 2 * (rule.left.nodes * rule.right.nodes);
     }
     base
 }
 
 // "Blocks are numbered from 0": the header, "a block for each ordered pair f ≠ g", and for each rule a block and "a block for each (u,v)".
-pub fn count_blocks(places: Book) -> usize
-    requires { WasRead places }
-    ensures { (bytes : List ℕ) → ReadFrom bytes places → result ≡ length (file_blocks (book_at bytes places)) }
+#[tactic(auto, using(crate::proofs::ReadRules::read_few_rules))]
+pub fn count_blocks(book: &Book) -> usize
+    requires { WasRead book.now }
+    ensures { (bytes : List ℕ) → ReadFrom bytes book.now → result ≡ length (file_blocks (book_at bytes book.now)) }
 {
-    let symbols = places.symbols;
-    let rules = places.rules;
+    let symbols = book.symbols;
     let mut blocks = 1 + symbols * symbols - symbols;
-    let mut rule = 0;
-    while rule < rules {
-        blocks += 1 + places.left_nodes[rule] * places.right_nodes[rule];
-        rule += 1;
+    for rule in &book.places[..book.rules] {
+        blocks += 1 + rule.left.nodes * rule.right.nodes;
     }
     blocks
 }

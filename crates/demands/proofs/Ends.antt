@@ -5,33 +5,25 @@ use mathlib.Core.List.{List, []}
 use mathlib.Core.Path.{◌≡◌, refl, sym, ap, ◌∙◌}
 use denote.Ref.{Bor, MutBor, at_last}
 use lib.ListN.{length, replicate, length-replicate}
+use Rattle.std.specs.Prelude.{Result, Ok, Err}
 use Rattle.reply.specs.Reply.{Refusal, Reply, given, refused}
 use Rattle.reply.specs.Lent.{laid}
+use Rattle.reply.specs.Replied.{replied, replied_as}
+use Rattle.reply.specs.declared.Refusal.{Refusal as Named}
 use Rattle.book.specs.Placed.{placed}
 use Rattle.book.proofs.Placed.{placed_means}
-use Rattle.clearing.specs.Meaning.{ranks_meaning}
 use Rattle.order.specs.Clearing.{check_ranks}
-use Rattle.clearing.specs.declared.RanksVerdict.{RanksVerdict}
-use Rattle.clearing.specs.declared.RanksVerdict.TheVariants as verdicts
 use Rattle.clauses.specs.File.{block}
-use Rattle.blocks.specs.Written.{written_meaning}
-use Rattle.blocks.specs.declared.Written.{Written}
-use Rattle.blocks.specs.declared.Written.TheVariants as blocks
 use Rattle.answer.specs.Ranks.{ranks_from_answer}
-use Rattle.answer.specs.Answered.{answered_meaning}
-use Rattle.answer.specs.declared.Answered.{Answered}
-use Rattle.answer.specs.declared.Answered.TheVariants as answers
 use Rattle.steps.specs.Run.{Outcome, done, spent, too_large, run, ran_bytes}
 use Rattle.steps.specs.Argument.{Part, argument}
 use Rattle.stepping.specs.Stepped.{outcome_of}
 use Rattle.stepping.specs.declared.Outcome.{Outcome as Ending}
 use Rattle.stepping.specs.declared.Outcome.TheVariants.{Done, Spent, TooLarge}
-use Rattle.running.specs.RunMeaning.{Told, run_told, run_meaning}
-use Rattle.asking.specs.Asked.{argument_meaning, handed_out, part_bytes}
-use Rattle.running.specs.declared.RunReply.{RunReply}
-use Rattle.running.specs.declared.RunReply.TheVariants as runs
-use Rattle.asking.specs.declared.ArgumentReply.{ArgumentReply}
-use Rattle.asking.specs.declared.ArgumentReply.TheVariants as parts
+use Rattle.running.specs.RunMeaning.{Told, run_told, told_in_code, run_meaning}
+use Rattle.asking.specs.Asked.{part_of, argument_meaning, handed_out, part_bytes}
+use Rattle.running.specs.declared.RanTo.{RanTo}
+use Rattle.asking.specs.declared.Found.{Found}
 use Rattle.demands.specs.EntryPoints.{Bytes, EntryPoint, answer, a_block, checking_ranks, ranks_of_an_answer, a_run, an_argument}
 use Rattle.demands.specs.Demand1.{ResultOrRefusal}
 use Rattle.demands.specs.InCode.{InCode}
@@ -66,21 +58,11 @@ behind bytes = record { ref_ptr = (0, 0); now = bytes }
 abbrev pub room_for : ℕ → MutBor Bytes
 room_for room = record { ref_ptr = (0, 0); ghost_name = 0; now = replicate room 0 }
 
--- An answer for every reply, of each enum.
-verdict_for : (numbers : List ℕ) (reply : Reply (Unit {0})) → ResultOrRefusal numbers reply → (r : RanksVerdict) × (ranks_meaning r ≡ reply)
-unfolding ResultOrRefusal ranks_meaning
-verdict_for numbers (given accepted) ok = (verdicts.Accepted, refl)
-verdict_for numbers (refused r) ok = (verdicts.Refused ok.1.row, ap (λ (q : Refusal). refused q) ok.1.tells)
-
-written_for : (numbers : List ℕ) (reply : Reply ℕ) → ResultOrRefusal numbers reply → (r : Written) × (written_meaning r ≡ reply)
-unfolding ResultOrRefusal written_meaning
-written_for numbers (given many) ok = (blocks.Laid many, refl)
-written_for numbers (refused r) ok = (blocks.Refused ok.1.row, ap (λ (q : Refusal). refused q) ok.1.tells)
-
-answered_for : (numbers : List ℕ) (reply : Reply ℕ) → ResultOrRefusal numbers reply → (r : Answered) × (answered_meaning r ≡ reply)
-unfolding ResultOrRefusal answered_meaning
-answered_for numbers (given many) ok = (answers.Accepted many, refl)
-answered_for numbers (refused r) ok = (answers.Refused ok.1.row, ap (λ (q : Refusal). refused q) ok.1.tells)
+-- A Result for every reply.
+result_for : {A : Type 0} (numbers : List ℕ) (reply : Reply A) → ResultOrRefusal numbers reply → (r : Result A Named) × (replied r ≡ reply)
+unfolding ResultOrRefusal replied
+result_for numbers (given a) ok = (Ok a, refl)
+result_for numbers (refused r) ok = (Err ok.1.row, ap (λ (q : Refusal). refused q) ok.1.tells)
 
 ending_for : (outcome : Outcome) → (ending : Ending) × (outcome_of ending ≡ outcome)
 unfolding outcome_of
@@ -88,19 +70,19 @@ ending_for done = (Done, refl)
 ending_for spent = (Spent, refl)
 ending_for too_large = (TooLarge, refl)
 
-ran_for : (numbers : List ℕ) (reply : Reply Told) → ResultOrRefusal numbers reply → (r : RunReply) × (run_meaning r ≡ reply)
-unfolding ResultOrRefusal run_meaning
+ran_for : (numbers : List ℕ) (reply : Reply Told) → ResultOrRefusal numbers reply → (r : Result RanTo Named) × (run_meaning r ≡ reply)
+unfolding ResultOrRefusal run_meaning replied_as told_in_code
 ran_for numbers (given told) ok =
     let (ending, so) = ending_for told.outcome in (
-      runs.RanTo ending told.steps told.length,
+      Ok (record { outcome = ending; steps = told.steps; length = told.length }),
       ap (λ (o : Outcome). given (record { outcome = o; steps = told.steps; length = told.length })) so,
     )
-ran_for numbers (refused r) ok = (runs.Refused ok.1.row, ap (λ (q : Refusal). refused q) ok.1.tells)
+ran_for numbers (refused r) ok = (Err ok.1.row, ap (λ (q : Refusal). refused q) ok.1.tells)
 
-part_for : (numbers : List ℕ) (reply : Reply Part) → ResultOrRefusal numbers reply → (r : ArgumentReply) × (argument_meaning r ≡ reply)
-unfolding ResultOrRefusal argument_meaning
-part_for numbers (given part) ok = (parts.Found part.start part.length, refl)
-part_for numbers (refused r) ok = (parts.Refused ok.1.row, ap (λ (q : Refusal). refused q) ok.1.tells)
+part_for : (numbers : List ℕ) (reply : Reply Part) → ResultOrRefusal numbers reply → (r : Result Found Named) × (argument_meaning r ≡ reply)
+unfolding ResultOrRefusal argument_meaning replied_as part_of
+part_for numbers (given part) ok = (Ok (record { start = part.start; length = part.length }), refl)
+part_for numbers (refused r) ok = (Err ok.1.row, ap (λ (q : Refusal). refused q) ok.1.tells)
 
 pub read_book_ends : Ends read_book_in_code
 unfolding read_book_in_code
@@ -122,7 +104,7 @@ write_block_ends handed =
     let number = handed.1.1.0 in
     let buffer = handed.1.1.1.0 in
     let room = length buffer.now in
-    let (result, means) = written_for a_block.numbers _ (answer_replies a_block block_demanded (book, number, room)) in (
+    let (result, means) = result_for a_block.numbers _ (answer_replies a_block block_demanded (book, number, room)) in (
       record {
         lifetimes = handed.0;
         arguments = handed.1;
@@ -138,7 +120,7 @@ unfolding check_ranks_in_code answer
 check_ranks_ends handed =
     let book = handed.1.0.now in
     let ranks = handed.1.1.0.now in
-    let (result, means) = verdict_for checking_ranks.numbers _ (answer_replies checking_ranks ranks_demanded (book, ranks)) in (
+    let (result, means) = result_for checking_ranks.numbers _ (answer_replies checking_ranks ranks_demanded (book, ranks)) in (
       record {
         lifetimes = handed.0;
         arguments = handed.1;
@@ -156,7 +138,7 @@ ranks_from_answer_ends handed =
     let text = handed.1.1.0.now in
     let buffer = handed.1.1.1.0 in
     let room = length buffer.now in
-    let (result, means) = answered_for ranks_of_an_answer.numbers _ (answer_replies ranks_of_an_answer answer_demanded (book, text, room)) in (
+    let (result, means) = result_for ranks_of_an_answer.numbers _ (answer_replies ranks_of_an_answer answer_demanded (book, text, room)) in (
       record {
         lifetimes = handed.0;
         arguments = handed.1;

@@ -1,9 +1,7 @@
 -- The functions of the code: which contract each entry point has, what is asked by what is handed over, and what is answered and left in the lent buffer.
 use Rattle.std.specs.Prelude.{◌+◌, List, [], ◌∷◌, ◌≡◌, refl, length}
+use Rattle.reply.specs.Replied.{replied}
 use Rattle.book.specs.Meaning.{meaning}
-use Rattle.clearing.specs.Meaning.{ranks_meaning}
-use Rattle.blocks.specs.Written.{written_meaning}
-use Rattle.answer.specs.Answered.{answered_meaning}
 use Rattle.asking.specs.Asked.{argument_meaning}
 use Rattle.running.specs.RunMeaning.{run_meaning}
 use Rattle.book.specs.contracts.read_book as read_book
@@ -150,21 +148,21 @@ unfoldable pub write_block_in_code : InCode a_block
 write_block_in_code =
     by_contract write_block_contract a_block
     (λ call. (call.arguments.0.now, call.arguments.1.0, length call.arguments.1.1.0.now))
-    (λ call. written_meaning call.result)
+    (λ call. replied call.result)
     (λ call. call.arguments.1.1.0.now)
 
 unfoldable pub check_ranks_in_code : InCode checking_ranks
 check_ranks_in_code =
     by_contract check_ranks_contract checking_ranks
     (λ call. (call.arguments.0.now, call.arguments.1.0.now))
-    (λ call. ranks_meaning call.result)
+    (λ call. replied call.result)
     (λ call. [])
 
 unfoldable pub ranks_from_answer_in_code : InCode ranks_of_an_answer
 ranks_from_answer_in_code =
     by_contract ranks_from_answer_contract ranks_of_an_answer
     (λ call. (call.arguments.0.now, call.arguments.1.0.now, length call.arguments.1.1.0.now))
-    (λ call. answered_meaning call.result)
+    (λ call. replied call.result)
     (λ call. call.arguments.1.1.0.now)
 
 unfoldable pub run_in_code : InCode a_run

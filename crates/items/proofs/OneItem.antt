@@ -1,5 +1,5 @@
 -- A word of a v line as an item, by its first byte and by the number from 1 to V behind the sign. Assumes nothing.
-use Prim.Native.Nat.{ℕ, suc, ◌-◌, ◌≤◌, ◌<◌}
+use Prim.Native.Nat.{ℕ, zero, suc, ◌-◌, ◌≤◌, ◌<◌}
 use mathlib.Core.Bool.{Bool, true, false, ◌&&◌}
 use mathlib.Core.List.{List, [], ◌∷◌}
 use mathlib.Core.Option.{Option, none, some}
@@ -14,6 +14,11 @@ use Rattle.text.specs.Decimal.{number, within}
 use Rattle.text.specs.Text.{ascii, same_text}
 use Rattle.clauses.specs.Cnf.{Literal, is, is_not}
 use Rattle.clauses.specs.Item.{Item, closing, literal, faulty, signed, literal_of, item}
+use Rattle.words.specs.Numbers.{from_one}
+use Rattle.items.specs.Meaning.{item_meaning}
+use Rattle.items.specs.declared.Item.{Item as Read}
+use Rattle.std.specs.Prelude.{Option as Maybe, Some, None, MatchOption, IsSomeAnd}
+use Rattle.std.specs.Option.{option_map}
 use Rattle.words.proofs.Numbers.{within_top, above_top}
 
 module _ (variables : ℕ) (sign : ℕ → Literal) where
@@ -25,64 +30,45 @@ module _ (variables : ℕ) (sign : ℕ → Literal) where
   unfolding signed
   too_large w h = rw (signed, lt-leb w variables h, le-leb 1 w (omega arith))
 
-  nought : signed variables sign (some 0) ≡ faulty
-  unfolding signed
-  nought = refl
-
-  -- By the number from 1 to V that stands behind the sign, 0 for none.
-  signed_nought : (o : Option ℕ) → within variables o ≡ 0 → signed variables sign o ≡ faulty
-  unfolding within signed
-  signed_nought none e = refl
-  signed_nought (some w) e = go (dec_le w variables)
+  -- By the number from 1 to V that stands behind the sign, if there is one: what is read as a sign and a number.
+  signed_from : (make : ℕ → Read) → ((v : ℕ) → item_meaning (Some (make v)) ≡ literal (sign v)) → (o : Option ℕ) →
+      item_meaning (option_map make (from_one (within variables o))) ≡ signed variables sign o
+  unfolding within signed from_one
+  signed_from make means none = refl
+  signed_from make means (some zero) = go (leb 0 variables)
     where
-      go : Dec (w ≤ variables) → signed variables sign (some w) ≡ faulty
-      go (yes h) = ap (λ (n : ℕ). signed variables sign (some n)) (sym (within_top variables w h) ∙ e)
-      go (no h) = too_large w (omega arith)
-
-  signed_number : (o : Option ℕ) → (within variables o ≡ 0 → ⊥) → signed variables sign o ≡ literal (sign (within variables o))
-  unfolding within
-  signed_number none d = absurd (d refl)
-  signed_number (some w) d = go (dec_le w variables)
+      go : (b : Bool) → item_meaning (option_map make (from_one (elim b [ true ↦ 0 | false ↦ 0 ]))) ≡ faulty
+      go true = refl
+      go false = refl
+  signed_from make means (some (suc v)) = go (dec_le (suc v) variables)
     where
-      go : Dec (w ≤ variables) → signed variables sign (some w) ≡ literal (sign (within variables (some w)))
-      go (yes h) =
-          let same : within variables (some w) ≡ w = within_top variables w h in
-          let low : 1 ≤ w = one_up w (λ z. d (same ∙ z)) in
-          rw same (accepted w low h)
-        where
-          one_up : (n : ℕ) → (n ≡ 0 → ⊥) → 1 ≤ n
-          one_up n f = omega arith
-      go (no h) = absurd (d (above_top variables w (omega arith)))
+      go : Dec (suc v ≤ variables) → item_meaning (option_map make (from_one (within variables (some (suc v))))) ≡ signed variables sign (some (suc v))
+      go (yes h) = rw within_top (means (suc v) ∙ sym (accepted (suc v) (omega arith) h))
+      go (no h) = let large : variables < suc v = omega arith in rw above_top (sym (too_large (suc v) large))
 
-  -- What is read as a sign and the number v.
-  module _ {x : Item} (o : Option ℕ) {v : ℕ} (read : x ≡ signed variables sign o) (e : v ≡ within variables o) where
-    pub nothing_read : v ≡ 0 → faulty ≡ x
-    nothing_read z = sym (read ∙ signed_nought o (sym e ∙ z))
-
-    pub literal_read : (v ≡ 0 → ⊥) → literal (sign v) ≡ x
-    literal_read d = ap (λ (n : ℕ). literal (sign n)) e ∙ sym (read ∙ signed_number o (λ z. d (e ∙ z)))
+  pub read_signed :
+      (make : ℕ → Read) → ((v : ℕ) → item_meaning (Some (make v)) ≡ literal (sign v)) → (o : Option ℕ) (n : Maybe ℕ) (r : Maybe Read) →
+      n ≡ from_one (within variables o) → MatchOption n (r ≡ None) (λ v. IsSomeAnd r (λ i. i ≡ make v)) → item_meaning r ≡ signed variables sign o
+  read_signed make means o None r e read = rw read (rw (← e) at (signed_from make means o))
+  read_signed make means o (Some v) None e read = absurd read
+  read_signed make means o (Some v) (Some i) e read = rw read (rw (← e) at (signed_from make means o))
 
 module _ (variables : ℕ) where
   pub closing_word : (word : List ℕ) → same_text word (48 ∷ []) ≡ true → closing ≡ item variables word
   unfolding item ascii
   closing_word word e = rw (item, e)
 
-  pub empty_word : (word : List ℕ) → length word ≡ 0 → faulty ≡ item variables word
-  unfolding item ascii same_text literal_of
-  empty_word [] e = refl
-  empty_word (b ∷ bs) e = absurd (omega arith)
-
   -- A word with a minus, and one without.
-  pub minus : (word : List ℕ) → (length word ≡ 0 → ⊥) → get_or word 0 0 ≡ 45 → item variables word ≡ signed variables is_not (number (take (length word - 1) (drop 1 word)))
+  pub minus : (word : List ℕ) → 0 < length word → get_or word 0 0 ≡ 45 → item variables word ≡ signed variables is_not (number (take (length word - 1) (drop 1 word)))
   unfolding item ascii same_text literal_of
-  minus [] full e = absurd (full refl)
+  minus [] full e = absurd (omega arith)
   minus (b ∷ bs) full e =
       ap (λ (d : ℕ). item variables (d ∷ bs)) e ∙ ap (λ (l : List ℕ). signed variables is_not (number l)) (sym (take_all (suc (length bs) - 1) bs (omega arith)))
 
-  pub plain : (word : List ℕ) → same_text word (48 ∷ []) ≡ false → (length word ≡ 0 → ⊥) → (get_or word 0 0 ≡ 45 → ⊥) → item variables word ≡ signed variables is (number word)
-  unfolding item ascii same_text literal_of
-  plain [] e full d = absurd (full refl)
-  plain (b ∷ bs) e full d = rw (item, e, literal_of, ne_eqb b 45 d)
+  pub plain : (word : List ℕ) → same_text word (48 ∷ []) ≡ false → (0 < length word → get_or word 0 0 ≡ 45 → ⊥) → item variables word ≡ signed variables is (number word)
+  unfolding item ascii same_text literal_of number signed
+  plain [] e d = refl
+  plain (b ∷ bs) e d = rw (item, e, literal_of, ne_eqb b 45 (d (omega arith)))
 
 -- A literal's variable is at least 1.
 abbrev FromOne : Item → Type 0

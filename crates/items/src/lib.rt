@@ -8,28 +8,23 @@ ghost use Rattle.items.specs.Meaning.{item_meaning};
 use words::{number_within, same};
 
 // "An item is a literal or the closing 0."
-#[derive(Drop)]
+#[derive(Clone, Copy, Debug, PartialEq, Eq)]
 pub enum Item {
     Closing,
     Is(usize),
     IsNot(usize),
-    Faulty,
 }
 
-// "A literal is an optional minus and a number from 1 to V without leading zeros. A single 0 closes the values".
-pub fn read_item(word: &[u8], variables: usize) -> Item
+// "A literal is an optional minus and a number from 1 to V without leading zeros. A single 0 closes the values"; none where a word is
+// no item.
+pub fn read_item(word: &[u8], variables: usize) -> Option<Item>
     ensures { item_meaning result ≡ item variables word.now }
 {
     if same(word, b"0") {
-        return Item::Closing;
+        return Some(Item::Closing);
     }
-    if word.len() == 0 {
-        return Item::Faulty;
+    match word {
+        [b'-', digits @ ..] => number_within(digits, variables).map(Item::IsNot),
+        _ => number_within(word, variables).map(Item::Is),
     }
-    if word[0] == b'-' {
-        let v = number_within(&word[1..], variables);
-        return if v == 0 { Item::Faulty } else { Item::IsNot(v) };
-    }
-    let v = number_within(word, variables);
-    if v == 0 { Item::Faulty } else { Item::Is(v) }
 }

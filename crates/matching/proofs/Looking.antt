@@ -3,22 +3,19 @@
 -- does, the place is remembered and the bound falls to the end of the root's subterm: a fit inside comes earlier, all others come later.
 -- Assumes nothing.
 use Prim.Native.Nat.{ℕ, zero, suc, ◌+◌, ◌*◌, ◌<◌, ◌≤◌}
-use mathlib.Core.Bool.{Bool, true, false}
 use mathlib.Core.List.{List}
 use mathlib.Core.Option.{Option, none, some, map, or_else}
-use mathlib.Core.Path.{◌≡◌, refl, sym, ap, subst, subst₂, ◌∙◌}
+use mathlib.Core.Path.{◌≡◌, refl, sym, ap, subst₂, ◌∙◌}
 use native.Mathlib.Omega.{arith}
-use lib.Dec.{T}
 use lib.ListN.{length}
+use Rattle.std.specs.Prelude.{Option as Maybe, Some, None}
 use Rattle.term.specs.Term.{Term, Args, var, app, nil, cons, size, sizes}
 use Rattle.term.specs.Root.{arguments}
 use Rattle.term.specs.At.{At, ArgsAt, none_at, and_at}
 use Rattle.term.proofs.At.{FirstAt, joined, root_passed, at_arguments, args_end, args_first, args_none, args_long}
 use Rattle.book.specs.Book.{Rule}
 use Rattle.steps.specs.NextStep.{Taken, lowest, taken_at, taken_in, taken_in_args}
-use Rattle.matching.specs.FirstPlace.{Applies, found_nowhere, FirstPlace}
-use Rattle.matching.specs.Table.{nothing_fits}
-use Rattle.building.specs.declared.Match.{Match}
+use Rattle.matching.specs.FirstPlace.{Applies, FirstPlace}
 use Rattle.building.specs.declared.Fit.{Fit}
 use Rattle.building.specs.declared.Place.{Place}
 
@@ -98,16 +95,15 @@ module _ (rules : List Rule) where
       ∙ or_assoc inside here (or_else later old)
       ∙ ap (or_else inside) (or_some (record { rule = i; place = p }) (or_else later old))
 
--- The place that is remembered.
-pub record Remembered (bytes arities : List ℕ) (rules : List Rule) (place : Place) (old : Option Taken) : Type 0 where
-  pub nothing : place.fit.table.fits ≡ false → (old ≡ none) × (place ≡ found_nowhere (length bytes))
-  pub something :
-      place.fit.table.fits ≡ true →
-      (s : Term) × At bytes arities place.at s place.end × Applies bytes arities rules s place.at place.fit ×
-      (old ≡ some (record { rule = place.fit.rule; place = place.at }))
+-- What a place that is remembered says: the step is taken there, and nothing where none is.
+unfoldable pub Remembered : (bytes arities : List ℕ) (rules : List Rule) → Maybe Place → Option Taken → Type 0
+Remembered bytes arities rules None old = old ≡ none
+Remembered bytes arities rules (Some place) old =
+    (s : Term) × At bytes arities place.at s place.end × Applies bytes arities rules s place.at place.fit ×
+    (old ≡ some (record { rule = place.fit.rule; place = place.at }))
 
 -- Looking for the step of t has come to a place.
-pub record Looking (bytes arities : List ℕ) (rules : List Rule) (t : Term) (at bound : ℕ) (place : Place) : Type 0 where
+pub record Looking (bytes arities : List ℕ) (rules : List Rule) (t : Term) (at bound : ℕ) (place : Maybe Place) : Type 0 where
   pub many : ℕ
   pub ahead : Args
   pub stand : ArgsAt bytes arities many at ahead bound
@@ -116,17 +112,15 @@ pub record Looking (bytes arities : List ℕ) (rules : List Rule) (t : Term) (at
   pub decide : taken_in rules 0 t ≡ or_else (taken_in_args rules at ahead) old
 
 pub look_begins :
-    {bytes arities : List ℕ} {rules : List Rule} {t : Term} (table : Match) → table ≡ nothing_fits → At bytes arities 0 t (length bytes) →
-    Looking bytes arities rules t 0 (length bytes) (record { at = 0; end = length bytes; fit = record { rule = 0; table = table } })
-look_begins {bytes} {rules = rules} {t = t} table p h = record {
+    {bytes arities : List ℕ} {rules : List Rule} {t : Term} → At bytes arities 0 t (length bytes) →
+    Looking bytes arities rules t 0 (length bytes) None
+unfolding Remembered
+look_begins {bytes} {rules = rules} {t = t} h = record {
   many = 1;
   ahead = cons t nil;
   stand = and_at h none_at;
   old = none;
-  remembered = record {
-    nothing = λ q. (refl, ap {B = Place} (λ (m : Match). record { at = 0; end = length bytes; fit = record { rule = 0; table = m } }) p);
-    something = λ q. absurd (subst (λ (b : Bool). T b) (sym q ∙ ap (λ (m : Match). m.fits) p) tt);
-  };
+  remembered = refl;
   decide =
       sym (or_none (taken_in rules 0 t))
       ∙ sym (
@@ -136,7 +130,7 @@ look_begins {bytes} {rules = rules} {t = t} table p h = record {
       );
 }
 
-module _ {bytes arities : List ℕ} {rules : List Rule} {t : Term} {at bound : ℕ} {place : Place} (looking : Looking bytes arities rules t at bound place) where
+module _ {bytes arities : List ℕ} {rules : List Rule} {t : Term} {at bound : ℕ} {place : Maybe Place} (looking : Looking bytes arities rules t at bound place) where
   module _ (p : at < bound) where
     ahead_there : 0 < looking.many
     ahead_there = go looking.many refl
@@ -167,33 +161,31 @@ module _ {bytes arities : List ℕ} {rules : List Rule} {t : Term} {at bound : �
 
     -- A rule fits here.
     look_inside :
-        (fit : Fit) → fit.table.fits ≡ true → Applies bytes arities rules root.first at fit →
-        Looking bytes arities rules t (at + 2) root.behind (record { at = at; end = root.behind; fit = fit })
-    look_inside fit q applies = record {
+        (fit : Fit) → Applies bytes arities rules root.first at fit →
+        Looking bytes arities rules t (at + 2) root.behind (Some (record { at = at; end = root.behind; fit = fit }))
+    unfolding Remembered
+    look_inside fit applies = record {
       many = _;
       ahead = arguments root.first;
       stand = at_arguments root.first_stands;
       old = some (record { rule = fit.rule; place = at });
-      remembered = record {
-        nothing = λ r. absurd (subst (λ (b : Bool). T b) (sym q ∙ r) tt);
-        something = λ r. (root.first, root.first_stands, applies, refl);
-      };
+      remembered = (root.first, root.first_stands, applies, refl);
       decide = parted ∙ entered rules at root.first root.others looking.old applies.is_lowest;
     }
 
     -- The bound and the place may go by other names, and so may the end.
     pub look_on_to :
-        (bound' : ℕ) (place' : Place) → lowest rules root.first ≡ none → bound' ≡ bound → place' ≡ place →
+        (bound' : ℕ) (place' : Maybe Place) → lowest rules root.first ≡ none → bound' ≡ bound → place' ≡ place →
         Looking bytes arities rules t (at + 2) bound' place'
-    look_on_to bound' place' q b pl = subst₂ (λ (n : ℕ) (x : Place). Looking bytes arities rules t (at + 2) n x) (sym b) (sym pl) (look_on q)
+    look_on_to bound' place' q b pl = subst₂ (λ (n : ℕ) (x : Maybe Place). Looking bytes arities rules t (at + 2) n x) (sym b) (sym pl) (look_on q)
 
     pub look_inside_to :
-        (fit : Fit) (end bound' : ℕ) (place' : Place) → fit.table.fits ≡ true → Applies bytes arities rules root.first at fit → end ≡ root.behind →
-        bound' ≡ end → place' ≡ record { at = at; end = end; fit = fit } → Looking bytes arities rules t (at + 2) bound' place'
-    look_inside_to fit end bound' place' q applies ends b pl =
-        subst₂ (λ (n : ℕ) (x : Place). Looking bytes arities rules t (at + 2) n x) (sym (b ∙ ends))
-        (sym (pl ∙ ap {B = Place} (λ (n : ℕ). record { at = at; end = n; fit = fit }) ends))
-        (look_inside fit q applies)
+        (fit : Fit) (end bound' : ℕ) (place' : Maybe Place) → Applies bytes arities rules root.first at fit → end ≡ root.behind → bound' ≡ end →
+        place' ≡ Some (record { at = at; end = end; fit = fit }) → Looking bytes arities rules t (at + 2) bound' place'
+    look_inside_to fit end bound' place' applies ends b pl =
+        subst₂ (λ (n : ℕ) (x : Maybe Place). Looking bytes arities rules t (at + 2) n x) (sym (b ∙ ends))
+        (sym (pl ∙ ap {B = Maybe Place} (λ (n : ℕ). Some (record { at = at; end = n; fit = fit })) ends))
+        (look_inside fit applies)
 
   -- Nothing is ahead.
   module _ (p : bound ≤ at) where
@@ -208,10 +200,9 @@ module _ {bytes arities : List ℕ} {rules : List Rule} {t : Term} {at bound : �
         ∙ ap (λ (o : Option Taken). or_else o looking.old) (in_none rules at)
 
     pub look_ends : FirstPlace bytes arities rules t place
-    look_ends = record {
-      nowhere = λ q. let (e, is) = looking.remembered.nothing q in (remembered_decides ∙ e, is);
-      there =
-          λ q.
-          let (s, stands, applies, e) = looking.remembered.something q in
-          record { is_taken = remembered_decides ∙ e; subterm = s; stands = stands; applies = applies };
-    }
+    unfolding Remembered FirstPlace
+    look_ends = told place looking.remembered
+      where
+        told : (place : Maybe Place) → Remembered bytes arities rules place looking.old → FirstPlace bytes arities rules t place
+        told None e = remembered_decides ∙ e
+        told (Some place) (s, stands, applies, e) = record { is_taken = remembered_decides ∙ e; subterm = s; stands = stands; applies = applies }

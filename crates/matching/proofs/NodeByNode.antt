@@ -2,7 +2,7 @@
 -- the whole: a replacement makes the left side identical to the subterm exactly if it makes what is left identical and agrees with
 -- the table. So a node that differs refutes all replacements, and at the end the table itself is one. Assumes nothing.
 use Prim.Native.Nat.{ℕ, zero, suc, ◌+◌, ◌*◌, ◌-◌, ◌<◌, ◌≤◌}
-use mathlib.Core.Bool.{Bool, true, false, ◌&&◌}
+use mathlib.Core.Bool.{Bool, true, false}
 use mathlib.Core.List.{List}
 use mathlib.Core.Logic.{◌↔◌, ◌⊎◌, inl, inr, ⊎_elim}
 use mathlib.Core.Path.{◌≡◌, refl, sym, ap, ap₂, subst, subst₂, ◌∙◌}
@@ -10,18 +10,19 @@ use native.Mathlib.Omega.{arith}
 use lib.Dec.{T}
 use lib.ListN.{get_or, replicate}
 use Rattle.term.specs.Term.{Term, Args, var, app, nil, cons, size, sizes, count, same}
-use Rattle.term.specs.Root.{arguments}
+use Rattle.std.specs.Prelude.{Option, Some, None}
+use Rattle.term.specs.Root.{symbol_of, arguments}
 use Rattle.term.specs.Replacement.{Replacement, replace, replace_all, Occurs, OccursIn, it, first, later}
-use Rattle.term.specs.At.{At, ArgsAt, symbol_at, none_at, and_at, Standing}
-use Rattle.term.proofs.At.{FirstAt, SymbolRoot, VariableRoot, joined, at_unique, at_end_lem, args_first, args_none, args_long, root_passed, symbol_root, variable_root}
+use Rattle.term.specs.At.{At, ArgsAt, none_at, and_at, Standing}
+use Rattle.term.proofs.At.{FirstAt, VariableRoot, joined, at_unique, at_end_lem, args_first, args_none, args_long, root_passed, root_symbol, variable_root, arguments_of_symbol}
 use Rattle.term.proofs.Same.{same→identical, identical→same}
 use Rattle.steps.specs.Fits.{Fits, matching, fits}
 use Rattle.building.specs.Right.{start_of, TermAt}
-use Rattle.matching.specs.Table.{is_bound, nothing_bound, met, bound_in, bound_in_args, table_of, Meets, TableAt, Holds}
+use Rattle.matching.specs.Table.{nothing_bound, met, bound_in, bound_in_args, table_of, if_same, Meets, TableAt, FitsAt}
 use Rattle.building.specs.declared.Match.{Match}
 use Rattle.steps.proofs.Fits.{matching_agrees, fits_decides}
 use Rattle.steps.proofs.Joined.{Makes, roots_passed, occurs_passed, occurs_at_variable}
-use Rattle.matching.proofs.Binding.{Agrees, bind, bound_there, bind_tabled, bind_keeps, bind_agrees, with_fits, met_free, met_bound}
+use Rattle.matching.proofs.Binding.{Bound, Agrees, bound_there, bind_tabled, bind_keeps, bind_agrees, met_bound}
 
 -- The matching of l and s has come to a place on the left and one in the record.
 pub record Going (book bytes arities : List ℕ) (l s : Term) (d e left place : ℕ) (whole table : Match) : Type 0 where
@@ -31,10 +32,9 @@ pub record Going (book bytes arities : List ℕ) (l s : Term) (d e left place : 
   pub lefts_stand : ArgsAt book arities many left lefts d
   pub subterms_stand : ArgsAt bytes arities many place subterms e
   pub small : (x : ℕ) → OccursIn x lefts → x < 16
-  pub fitting : table.fits ≡ true
   pub tabled : TableAt bytes arities table
   pub decide : (σ : Replacement) → (replace σ l ≡ s) ↔ (Makes σ lefts subterms × Agrees bytes arities table σ)
-  pub covered : (x : ℕ) → Occurs x l → OccursIn x lefts ⊎ T (is_bound table x)
+  pub covered : (x : ℕ) → Occurs x l → OccursIn x lefts ⊎ Bound table x
   pub rest : bound_in_args lefts subterms place table ≡ whole
 
 -- No replacement: the left side does not fit.
@@ -53,14 +53,6 @@ some_fits l s σ p = go (fits l s) refl
     go : (b : Bool) → fits l s ≡ b → fits l s ≡ true
     go true q = q
     go false q = absurd (subst (λ (b : Bool). T b) q ((fits_decides l s).1 (σ, p)))
-
-is_free : (b : Bool) → (T b → ⊥) → b ≡ false
-is_free false n = refl
-is_free true n = absurd (n tt)
-
-is_bound_lem : (b : Bool) → T b → b ≡ true
-is_bound_lem true p = refl
-is_bound_lem false p = absurd p
 
 -- What the table comes to, node by node: the arguments of a symbol join the others, and a variable is met.
 bound_all :
@@ -87,13 +79,20 @@ bound_joined {f} {g} l s ls ss p table q r same_count =
 
 bound_variable :
     {x : ℕ} (l s : Term) (ls ss : Args) (p : ℕ) (table : Match) → l ≡ var x →
-    bound_in_args (cons l ls) (cons s ss) p table ≡ bound_in_args ls ss (p + 2 * size s) (met table x p true)
+    bound_in_args (cons l ls) (cons s ss) p table ≡ bound_in_args ls ss (p + 2 * size s) (met table x p)
 unfolding bound_in
 bound_variable l s ls ss p table q = ap (λ (l' : Term). bound_in_args ls ss (p + 2 * size s) (bound_in l' s p table)) q
 
--- A node of a symbol, by its bytes.
-symbol_bytes : {bytes arities : List ℕ} {u f e : ℕ} {ts : Args} → At bytes arities u (app f ts) e → (get_or bytes u 0 ≡ 3) × (get_or bytes (u + 1) 0 ≡ f)
-symbol_bytes (symbol_at w k b l h) = (k, b)
+-- The root's symbol.
+module _ {f : ℕ} where
+  of_symbol : (t : Term) → symbol_of t ≡ Some f → t ≡ app f (arguments t)
+  unfolding symbol_of arguments
+  of_symbol (var x) q = absurd cc
+  of_symbol (app g ts) q = ap (λ (h : ℕ). app h ts) cc
+
+  symbol_of_app : {t : Term} {ts : Args} → t ≡ app f ts → symbol_of t ≡ Some f
+  unfolding symbol_of
+  symbol_of_app q = rw q refl
 
 module _ {book bytes arities : List ℕ} {l s : Term} {d e left place : ℕ} {whole table : Match} (going : Going book bytes arities l s d e left place whole table) where
   -- Where the left side goes on, there is a node on both sides.
@@ -126,76 +125,63 @@ module _ {book bytes arities : List ℕ} {l s : Term} {d e left place : ℕ} {wh
     rest_parted = sym (ap₂ (λ (ls ss : Args). bound_in_args ls ss place table) on_left.parted on_record.parted) ∙ going.rest
 
     -- Another symbol, or none: no replacement helps.
-    pub symbol_differs :
-        get_or book left 0 ≡ 3 → (get_or bytes place 0 ≡ 3 → get_or bytes (place + 1) 0 ≡ get_or book (left + 1) 0 → ⊥) → fits l s ≡ false
-    unfolding replace
-    symbol_differs k differs =
-        never_fits l s
-        (λ σ q.
-        let (made, agrees) = (parted σ).0 q in
-        let root = symbol_root on_left.first_stands k in
-        let there : on_record.first ≡ app (get_or book (left + 1) 0) (replace_all σ (arguments on_left.first)) = cc (ap (replace σ) root.symbol) in
-        let (kind, number) = symbol_bytes (subst (λ t. At bytes arities place t on_record.behind) there on_record.first_stands) in
-        differs kind number)
+    module _ {f : ℕ} (symbol : symbol_of on_left.first ≡ Some f) where
+      pub symbol_differs : (symbol_of on_record.first ≡ Some f → ⊥) → fits l s ≡ false
+      unfolding replace
+      symbol_differs differs =
+          never_fits l s
+          (λ σ q.
+          let (made, agrees) = (parted σ).0 q in
+          let there : on_record.first ≡ app f (replace_all σ (arguments on_left.first)) = cc (ap (replace σ) (of_symbol on_left.first symbol)) in
+          differs (symbol_of_app there))
 
-    -- Equal symbols on both sides.
-    pub symbol_passed :
-        get_or book left 0 ≡ 3 → get_or bytes place 0 ≡ 3 → get_or bytes (place + 1) 0 ≡ get_or book (left + 1) 0 →
-        Going book bytes arities l s d e (left + 2) (place + 2) whole table
-    symbol_passed k k' number = record {
-      many = count (arguments on_left.first) + (going.many - 1);
-      lefts = joined (arguments on_left.first) on_left.others;
-      subterms = joined (arguments on_record.first) on_record.others;
-      lefts_stand = root_passed on_left.first_stands on_left.others_stand refl;
-      subterms_stand = root_passed on_record.first_stands on_record.others_stand (omega (arith, as_many));
-      small = λ x o. going.small x (rw on_left.parted ((occurs x).1 o));
-      fitting = going.fitting;
-      tabled = going.tabled;
-      decide = λ σ. (
-        λ q. let (made, agrees) = (parted σ).0 q in ((passed σ).0 made, agrees),
-        λ (made, agrees). (parted σ).1 ((passed σ).1 made, agrees),
-      );
-      covered = λ x o. ⊎_elim (λ i. inl ((occurs x).0 (rw on_left.parted at i))) inr (going.covered x o);
-      rest =
-          sym (bound_joined on_left.first on_record.first on_left.others on_record.others place table a.symbol b.symbol as_many)
-          ∙ rest_parted;
-    }
-      where
-        f : ℕ
-        f = get_or book (left + 1) 0
+      -- Equal symbols on both sides.
+      pub symbol_passed : symbol_of on_record.first ≡ Some f → Going book bytes arities l s d e (left + 2) (place + 2) whole table
+      symbol_passed same = record {
+        many = count (arguments on_left.first) + (going.many - 1);
+        lefts = joined (arguments on_left.first) on_left.others;
+        subterms = joined (arguments on_record.first) on_record.others;
+        lefts_stand = root_passed on_left.first_stands on_left.others_stand refl;
+        subterms_stand = root_passed on_record.first_stands on_record.others_stand (omega (arith, as_many));
+        small = λ x o. going.small x (rw on_left.parted ((occurs x).1 o));
+        tabled = going.tabled;
+        decide = λ σ. (
+          λ q. let (made, agrees) = (parted σ).0 q in ((passed σ).0 made, agrees),
+          λ (made, agrees). (parted σ).1 ((passed σ).1 made, agrees),
+        );
+        covered = λ x o. ⊎_elim (λ i. inl ((occurs x).0 (rw on_left.parted at i))) inr (going.covered x o);
+        rest =
+            sym
+            (bound_joined on_left.first on_record.first on_left.others on_record.others place table (of_symbol on_left.first symbol)
+            (of_symbol on_record.first same) as_many)
+            ∙ rest_parted;
+      }
+        where
+          as_many : count (arguments on_left.first) ≡ count (arguments on_record.first)
+          as_many = arguments_of_symbol on_left.first_stands symbol ∙ sym (arguments_of_symbol on_record.first_stands same)
 
-        a : SymbolRoot book arities left on_left.first
-        a = symbol_root on_left.first_stands k
+          passed :
+              (σ : Replacement) →
+              Makes σ (cons on_left.first on_left.others) (cons on_record.first on_record.others) ↔
+              Makes σ (joined (arguments on_left.first) on_left.others) (joined (arguments on_record.first) on_record.others)
+          passed σ =
+              roots_passed σ f on_left.first on_record.first on_left.others on_record.others (of_symbol on_left.first symbol)
+              (of_symbol on_record.first same) as_many
 
-        b : SymbolRoot bytes arities place on_record.first
-        b = symbol_root on_record.first_stands k'
+          occurs : (x : ℕ) → OccursIn x (cons on_left.first on_left.others) ↔ OccursIn x (joined (arguments on_left.first) on_left.others)
+          occurs x = occurs_passed f x on_left.first on_left.others (of_symbol on_left.first symbol)
 
-        as_many : count (arguments on_left.first) ≡ count (arguments on_record.first)
-        as_many = a.arity ∙ ap (λ g. get_or arities g 0) (sym number) ∙ sym b.arity
-
-        passed :
-            (σ : Replacement) →
-            Makes σ (cons on_left.first on_left.others) (cons on_record.first on_record.others) ↔
-            Makes σ (joined (arguments on_left.first) on_left.others) (joined (arguments on_record.first) on_record.others)
-        passed σ =
-            roots_passed σ f on_left.first on_record.first on_left.others on_record.others a.symbol
-            (b.symbol ∙ ap (λ g. app g (arguments on_record.first)) number)
-            as_many
-
-        occurs : (x : ℕ) → OccursIn x (cons on_left.first on_left.others) ↔ OccursIn x (joined (arguments on_left.first) on_left.others)
-        occurs x = occurs_passed f x on_left.first on_left.others a.symbol
-
-    -- A variable on the left: everything in the record fits it, once.
-    module _ (k : get_or book left 0 ≡ 3 → ⊥) where
-      abbrev x : ℕ
-      x = get_or book (left + 1) 0
-
+    -- A variable on the left, by its number: everything in the record fits it, once.
+    module _ (none : symbol_of on_left.first ≡ None) {x : ℕ} (number : x ≡ get_or book (left + 1) 0) where
       root : VariableRoot book left on_left.first on_left.behind
-      root = variable_root on_left.first_stands k
+      root = variable_root on_left.first_stands (λ k. cc (root_symbol on_left.first_stands k))
+
+      variable : on_left.first ≡ var x
+      variable = root.variable ∙ ap var (sym number)
 
       -- It has a place in the table.
       pub variable_small : x < 16
-      variable_small = going.small x (rw on_left.parted (first {t = on_left.first} (rw root.variable it)))
+      variable_small = going.small x (rw on_left.parted (first {t = on_left.first} (rw variable it)))
 
       -- What a replacement has to make of the variable and of the others.
       at_variable :
@@ -203,24 +189,23 @@ module _ {book bytes arities : List ℕ} {l s : Term} {d e left place : ℕ} {wh
           (replace σ l ≡ s) ↔ ((σ x ≡ on_record.first) × Makes σ on_left.others on_record.others × Agrees bytes arities table σ)
       unfolding replace on_record
       at_variable σ = (
-        λ q. let (made, agrees) = (parted σ).0 q in (cc root.variable, cc, agrees),
-        λ (here, others, agrees). (parted σ).1 (cc root.variable, agrees),
+        λ q. let (made, agrees) = (parted σ).0 q in (cc variable, cc, agrees),
+        λ (here, others, agrees). (parted σ).1 (cc variable, agrees),
       )
 
       -- It is passed with its term, by a table that agrees with the old and has it.
       variable_passed :
-          (after : Match) → after.fits ≡ true → TableAt bytes arities after →
+          (after : Match) → TableAt bytes arities after →
           ((σ : Replacement) → ((σ x ≡ on_record.first) × Agrees bytes arities table σ) ↔ Agrees bytes arities after σ) →
-          ((y : ℕ) → T (is_bound table y) → T (is_bound after y)) → T (is_bound after x) → met table x place true ≡ after →
+          ((y : ℕ) → Bound table y → Bound after y) → Bound after x → met table x place ≡ after →
           Going book bytes arities l s d e (left + 2) on_record.behind whole after
-      variable_passed after fitting tabled agreeing more bound is = record {
+      variable_passed after tabled agreeing more bound is = record {
         many = going.many - 1;
         lefts = on_left.others;
         subterms = on_record.others;
         lefts_stand = subst (λ u. ArgsAt book arities (going.many - 1) u on_left.others d) root.ends on_left.others_stand;
         subterms_stand = on_record.others_stand;
         small = λ y o. going.small y (rw on_left.parted (later o));
-        fitting = fitting;
         tabled = tabled;
         decide = λ σ. (
           λ q. let (here, others, agrees) = (at_variable σ).0 q in (others, (agreeing σ).0 (here, agrees)),
@@ -229,93 +214,75 @@ module _ {book bytes arities : List ℕ} {l s : Term} {d e left place : ℕ} {wh
         covered = λ y o. ⊎_elim (λ i. split y (rw on_left.parted at i)) (λ b. inr (more y b)) (going.covered y o);
         rest =
             ap₂ (λ (n : ℕ) (m : Match). bound_in_args on_left.others on_record.others n m) (at_end_lem on_record.first_stands) (sym is)
-            ∙ sym (bound_variable on_left.first on_record.first on_left.others on_record.others place table root.variable)
+            ∙ sym (bound_variable on_left.first on_record.first on_left.others on_record.others place table variable)
             ∙ rest_parted;
       }
         where
-          split : (y : ℕ) → OccursIn y (cons on_left.first on_left.others) → OccursIn y on_left.others ⊎ T (is_bound after y)
-          split y o = ⊎_elim inl (λ (q : x ≡ y). inr (subst (λ z. T (is_bound after z)) q bound)) (occurs_at_variable (rw root.variable at o))
+          split : (y : ℕ) → OccursIn y (cons on_left.first on_left.others) → OccursIn y on_left.others ⊎ Bound after y
+          split y o = ⊎_elim inl (λ (q : x ≡ y). inr (rw (← q) bound)) (occurs_at_variable (rw variable at o))
 
       -- Where it is free it is bound here ..
-      module _ (free : T (is_bound table x) → ⊥) where
-        variable_bound : Going book bytes arities l s d e (left + 2) on_record.behind whole (bind table x place)
-        unfolding bind
-        variable_bound =
-            variable_passed
-            (bind table x place)
-            going.fitting
-            (bind_tabled table x place going.tabled variable_small (record { term = on_record.first; behind = on_record.behind; stands = on_record.first_stands }))
-            (λ σ. bind_agrees table x place going.tabled variable_small free on_record.first_stands σ)
-            (λ y b. bind_keeps table x place going.tabled variable_small free y b)
-            (bound_there table x place going.tabled variable_small)
-            (met_free table x place true (is_free (is_bound table x) free))
+      variable_bound : start_of table x ≡ None → Going book bytes arities l s d e (left + 2) on_record.behind whole (met table x place)
+      variable_bound free =
+          variable_passed
+          (met table x place)
+          (bind_tabled table x place free going.tabled variable_small (record { term = on_record.first; behind = on_record.behind; stands = on_record.first_stands }))
+          (λ σ. bind_agrees table x place free going.tabled variable_small on_record.first_stands σ)
+          (λ y b. bind_keeps table x place free going.tabled variable_small y b)
+          (bound_there table x place free going.tabled variable_small)
+          refl
 
       -- .. and where it is bound, to t, the term here has to be t.
-      module _ (bound : T (is_bound table x)) {t : Term} {c : ℕ} (stands : At bytes arities (start_of table x) t c) where
-        as_before : with_fits table (table.fits && true) ≡ table
-        unfolding with_fits
-        as_before = ap (with_fits table) (ap (λ (b : Bool). b && true) going.fitting ∙ sym going.fitting)
-
+      module _ {start : ℕ} (bound : start_of table x ≡ Some start) {t : Term} {c : ℕ} (stands : At bytes arities start t c) where
         variable_same : same t on_record.first ≡ true → Going book bytes arities l s d e (left + 2) on_record.behind whole table
         variable_same q =
             let identical : t ≡ on_record.first = same→identical t on_record.first (rw q tt) in
             variable_passed
             table
-            going.fitting
             going.tabled
-            (λ σ. (λ (here, agrees). agrees, λ agrees. (agrees x t c bound stands ∙ identical, agrees)))
+            (λ σ. (λ (here, agrees). agrees, λ agrees. (agrees x start t c bound stands ∙ identical, agrees)))
             (λ y b. b)
-            bound
-            (met_bound table x place true (is_bound_lem (is_bound table x) bound) ∙ as_before)
+            (record { start = start; is = bound })
+            (met_bound table x place bound)
 
         variable_differs : same t on_record.first ≡ false → fits l s ≡ false
         variable_differs q =
             never_fits l s
             (λ σ made.
             let (here, others, agrees) = (at_variable σ).0 made in
-            subst (λ (b : Bool). T b) q (identical→same t on_record.first (sym (agrees x t c bound stands) ∙ here)))
+            subst (λ (b : Bool). T b) q (identical→same t on_record.first (sym (agrees x start t c bound stands) ∙ here)))
 
       -- So the table after it tells.
-      module _ (after : Match) (meets : Meets bytes arities table x place after) where
-        at_free : is_bound table x ≡ false → after ≡ bind table x place
-        at_free q =
-            meets on_record.first on_record.first on_record.behind on_record.behind (λ b. absurd (subst (λ (b : Bool). T b) q b)) on_record.first_stands
-            ∙ met_free table x place (same on_record.first on_record.first) q
+      pub variable_fits : {after : Match} → Meets bytes arities table x place (Some after) → Going book bytes arities l s d e (left + 2) on_record.behind whole after
+      unfolding if_same
+      variable_fits {after} meets = go (start_of table x) refl
+        where
+          On : Match → Type 0
+          On m = Going book bytes arities l s d e (left + 2) on_record.behind whole m
 
-        module _ (b : is_bound table x ≡ true) where
-          standing : Standing bytes arities (start_of table x)
-          standing = going.tabled.stands x (rw b tt)
+          compared : {start : ℕ} → start_of table x ≡ Some start → (standing : Standing bytes arities start) (b : Bool) → same standing.term on_record.first ≡ b → On after
+          compared q standing true r =
+              let is : table ≡ after = cc (meets.bound _ q standing.term on_record.first standing.behind on_record.behind standing.stands on_record.first_stands, r) in
+              subst On is (variable_same q standing.stands r)
+          compared q standing false r =
+              absurd (cc (meets.bound _ q standing.term on_record.first standing.behind on_record.behind standing.stands on_record.first_stands, r))
 
-          at_bound : after ≡ with_fits table (table.fits && same standing.term on_record.first)
-          at_bound =
-              meets standing.term on_record.first standing.behind on_record.behind (λ i. standing.stands) on_record.first_stands
-              ∙ met_bound table x place (same standing.term on_record.first) b
+          go : (o : Option ℕ) → start_of table x ≡ o → On after
+          go None q = let is : met table x place ≡ after = cc (meets.free q) in subst On is (variable_bound q)
+          go (Some start) q = let standing = going.tabled.stands x start q in compared q standing (same standing.term on_record.first) refl
 
-          the_answer : after.fits ≡ same standing.term on_record.first
-          unfolding with_fits
-          the_answer = ap (λ (m : Match). m.fits) at_bound ∙ ap (λ (b : Bool). b && same standing.term on_record.first) going.fitting
+      pub variable_fails : Meets bytes arities table x place None → fits l s ≡ false
+      unfolding if_same
+      variable_fails meets = go (start_of table x) refl
+        where
+          compared : {start : ℕ} → start_of table x ≡ Some start → (standing : Standing bytes arities start) (b : Bool) → same standing.term on_record.first ≡ b → fits l s ≡ false
+          compared q standing false r = variable_differs q standing.stands r
+          compared q standing true r =
+              absurd (cc (meets.bound _ q standing.term on_record.first standing.behind on_record.behind standing.stands on_record.first_stands, r))
 
-          unchanged : after.fits ≡ true → table ≡ after
-          unfolding with_fits
-          unchanged q = ap (with_fits table) (going.fitting ∙ sym q ∙ ap (λ (m : Match). m.fits) at_bound) ∙ sym at_bound
-
-        pub variable_fits : after.fits ≡ true → Going book bytes arities l s d e (left + 2) on_record.behind whole after
-        variable_fits q = go (is_bound table x) refl
-          where
-            On : Match → Type 0
-            On m = Going book bytes arities l s d e (left + 2) on_record.behind whole m
-
-            go : (b : Bool) → is_bound table x ≡ b → On after
-            go false b = subst On (sym (at_free b)) (variable_bound (λ i. subst (λ (z : Bool). T z) b i))
-            go true b = subst On (unchanged b q) (variable_same (rw b tt) (standing b).stands (sym (the_answer b) ∙ q))
-
-        pub variable_fails : after.fits ≡ false → fits l s ≡ false
-        unfolding bind
-        variable_fails q = go (is_bound table x) refl
-          where
-            go : (b : Bool) → is_bound table x ≡ b → fits l s ≡ false
-            go false b = absurd (subst (λ (z : Bool). T z) (sym going.fitting ∙ sym (ap (λ (m : Match). m.fits) (at_free b)) ∙ q) tt)
-            go true b = variable_differs (rw b tt) (standing b).stands (sym (the_answer b) ∙ q)
+          go : (o : Option ℕ) → start_of table x ≡ o → fits l s ≡ false
+          go None q = absurd (cc (meets.free q))
+          go (Some start) q = let standing = going.tabled.stands x start q in compared q standing (same standing.term on_record.first) refl
 
   -- Nothing is left: the table is a replacement that makes the left side identical to the subterm.
   module _ (p : d ≤ left) where
@@ -328,20 +295,20 @@ module _ {book bytes arities : List ℕ} {l s : Term} {d e left place : ℕ} {wh
     no_subterms : going.subterms ≡ nil
     no_subterms = (args_none going.subterms_stand none_left).0
 
-    held : (x : ℕ) (b : Bool) → is_bound table x ≡ b → Term
-    held x true q = (going.tabled.stands x (rw q tt)).term
-    held x false q = var x
+    held : (x : ℕ) (o : Option ℕ) → start_of table x ≡ o → Term
+    held x (Some start) q = (going.tabled.stands x start q).term
+    held x None q = var x
 
     by_table : Replacement
-    by_table x = held x (is_bound table x) refl
+    by_table x = held x (start_of table x) refl
 
     by_table_agrees : Agrees bytes arities table by_table
     unfolding by_table held
-    by_table_agrees x t c b stands = go (is_bound table x) refl
+    by_table_agrees x start t c b stands = go (start_of table x) refl
       where
-        go : (z : Bool) (q : is_bound table x ≡ z) → held x z q ≡ t
-        go true q = (at_unique (going.tabled.stands x (rw q tt)).stands stands).0
-        go false q = absurd (subst (λ (z : Bool). T z) q b)
+        go : (o : Option ℕ) (q : start_of table x ≡ o) → held x o q ≡ t
+        go (Some place) q = let same : start ≡ place = cc in (at_unique (going.tabled.stands x place q).stands (rw same at stands)).0
+        go None q = absurd cc
 
     makes : replace by_table l ≡ s
     unfolding replace
@@ -354,21 +321,22 @@ module _ {book bytes arities : List ℕ} {l s : Term} {d e left place : ℕ} {wh
     unfolding bound_in
     rest_none = ap (λ (ls : Args). bound_in_args ls going.subterms place table) (sym no_lefts) ∙ going.rest
 
-    pub all_passed : (at : ℕ) → whole ≡ table_of l s at → Holds bytes arities l s at table
+    pub all_passed : (at : ℕ) → whole ≡ table_of l s at → FitsAt bytes arities l s at table
     all_passed at is = record {
-      decides = going.fitting ∙ sym (some_fits l s by_table makes);
-      whole = λ q. rest_none ∙ is;
-      variables = λ q x o. ⊎_elim nowhere (λ b. there x o b) (going.covered x o);
+      fitting = some_fits l s by_table makes;
+      whole = rest_none ∙ is;
+      variables = λ x o. ⊎_elim nowhere (λ b. there x o b) (going.covered x o);
     }
       where
-        there : (x : ℕ) → Occurs x l → T (is_bound table x) → TermAt bytes arities (start_of table x) (matching l s x)
+        there : (x : ℕ) → Occurs x l → Bound table x → TermAt bytes arities (start_of table x) (matching l s x)
         there x o b =
-            let standing = going.tabled.stands x b in
-            (standing.behind, rw (matching_agrees l s by_table makes x o ∙ by_table_agrees x standing.term standing.behind b standing.stands) standing.stands)
-
-  -- A table of an answer that is no: nothing is held.
-  pub none_held : (at : ℕ) (after : Match) → after.fits ≡ false → fits l s ≡ false → Holds bytes arities l s at after
-  none_held at after q r = record { decides = q ∙ sym r; whole = λ b. absurd (subst (λ (z : Bool). T z) q b); variables = λ b. absurd (subst (λ (z : Bool). T z) q b) }
+            let standing = going.tabled.stands x b.start b.is in
+            record {
+              place = b.start;
+              bound = b.is;
+              behind = standing.behind;
+              stands = rw (matching_agrees l s by_table makes x o ∙ by_table_agrees x b.start standing.term standing.behind b.is standing.stands) standing.stands;
+            }
 
 -- The same places and the same table under other names.
 pub renamed :
@@ -377,13 +345,13 @@ pub renamed :
 renamed {book} {bytes} {arities} {l} {s} {d} {e} {left} {whole = whole} p q going = subst₂ (λ m u. Going book bytes arities l s d e left u whole m) (sym p) (sym q) going
 
 -- The start: nothing is bound.
-never_bound : (n x : ℕ) → get_or (replicate n false) x false ≡ false
+never_bound : (n x : ℕ) → get_or {A = Option ℕ} (replicate n None) x None ≡ None
 never_bound zero x = refl
 never_bound (suc n) zero = refl
 never_bound (suc n) (suc x) = never_bound n x
 
-nothing_bound_lem : (x : ℕ) → T (is_bound nothing_bound x) → ⊥
-nothing_bound_lem x b = subst (λ (z : Bool). T z) (never_bound 16 x) b
+nothing_bound_lem : (x : ℕ) {start : ℕ} → start_of nothing_bound x ≡ Some start → ⊥
+nothing_bound_lem x q = cc (never_bound 16 x)
 
 pub begins :
     {book bytes arities : List ℕ} {l s : Term} {d e left place : ℕ} → At book arities left l d → ((x : ℕ) → Occurs x l → x < 16) →
@@ -396,9 +364,8 @@ begins {l = l} {s = s} h small k = record {
   lefts_stand = and_at h none_at;
   subterms_stand = and_at k none_at;
   small = λ x o. small x (only o);
-  fitting = refl;
-  tabled = record { places = refl; flags = refl; stands = λ x b. absurd (nothing_bound_lem x b) };
-  decide = λ σ. (λ q. (ap (λ z. cons z nil) q, λ x t c b stands. absurd (nothing_bound_lem x b)), λ (made, agrees). cc);
+  tabled = record { places = refl; stands = λ x start b. absurd (nothing_bound_lem x b) };
+  decide = λ σ. (λ q. (ap (λ z. cons z nil) q, λ x start t c b stands. absurd (nothing_bound_lem x b)), λ (made, agrees). cc);
   covered = λ x o. inl (first o);
   rest = refl;
 }

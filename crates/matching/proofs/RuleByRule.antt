@@ -1,12 +1,11 @@
 -- The rules are tried one by one, from the lowest number on: as long as none fits, the later ones decide. Assumes nothing.
 use Prim.Native.Nat.{ℕ, suc, ◌+◌, ◌<◌, ◌≤◌}
-use mathlib.Core.Bool.{Bool, true, false}
+use mathlib.Core.Bool.{false}
 use mathlib.Core.List.{List, ◌∷◌}
 use mathlib.Core.Option.{Option, none, some, map}
-use mathlib.Core.Path.{◌≡◌, refl, sym, ap, subst, ◌∙◌}
+use mathlib.Core.Path.{◌≡◌, refl, sym, ap, ◌∙◌}
 use native.Mathlib.Numerals.{add-one}
 use native.Mathlib.Omega.{arith}
-use lib.Dec.{T}
 use lib.ListN.{length, drop, drop_of_length-le}
 use lib.Seq.{drop-cons}
 use Rattle.term.specs.Term.{Term, var}
@@ -14,10 +13,9 @@ use Rattle.book.specs.Book.{Rule}
 use Rattle.steps.specs.Fits.{fits}
 use Rattle.steps.specs.Step.{rule_of}
 use Rattle.steps.specs.NextStep.{lowest}
-use Rattle.matching.specs.Table.{Holds}
-use Rattle.matching.specs.FirstPlace.{FirstRule}
+use Rattle.matching.specs.Table.{FitsAt}
+use Rattle.matching.specs.FirstPlace.{Applies}
 use Rattle.building.specs.declared.Match.{Match}
-use Rattle.building.specs.declared.Fit.{Fit}
 use Rattle.steps.proofs.NextStep.{front_lowest, later_lowest}
 
 -- The rules before i do not fit s.
@@ -54,24 +52,17 @@ module _ {rules : List Rule} {s : Term} {i : ℕ} (tried : Tried rules s i) wher
     }
 
     pub this_applies :
-        {bytes arities : List ℕ} {at : ℕ} {table : Match} → Holds bytes arities (rule_of rules i).left s at table → table.fits ≡ true →
-        FirstRule bytes arities rules s at (record { rule = i; table = table })
-    this_applies holds q = record {
-      no_rule = λ r. absurd (subst (λ (b : Bool). T b) (sym q ∙ r) tt);
-      a_rule =
-          λ r. record {
-            is_lowest =
-                this_first
-                ∙ ap (map (λ (j : ℕ). i + j)) (front_lowest (rule_of rules i) (drop (suc i) rules) s (sym holds.decides ∙ q))
-                ∙ ap {B = Option ℕ} some (omega arith);
-            table = holds.whole (rw q tt);
-            variables = holds.variables (rw q tt);
-          };
+        {bytes arities : List ℕ} {at : ℕ} {table : Match} → FitsAt bytes arities (rule_of rules i).left s at table →
+        Applies bytes arities rules s at (record { rule = i; table = table })
+    this_applies held = record {
+      is_lowest =
+          this_first
+          ∙ ap (map (λ (j : ℕ). i + j)) (front_lowest (rule_of rules i) (drop (suc i) rules) s held.fitting)
+          ∙ ap {B = Option ℕ} some (omega arith);
+      table = held.whole;
+      variables = held.variables;
     }
 
-  pub all_tried : {bytes arities : List ℕ} {at : ℕ} (fit : Fit) → length rules ≤ i → fit.table.fits ≡ false → FirstRule bytes arities rules s at fit
+  pub all_tried : length rules ≤ i → lowest rules s ≡ none
   unfolding lowest
-  all_tried fit p q = record {
-    no_rule = λ r. tried.later ∙ ap (λ (rs : List Rule). map (λ (j : ℕ). i + j) (lowest rs s)) (drop_of_length-le rules p);
-    a_rule = λ r. absurd (subst (λ (b : Bool). T b) (sym r ∙ q) tt);
-  }
+  all_tried p = tried.later ∙ ap (λ (rs : List Rule). map (λ (j : ℕ). i + j) (lowest rs s)) (drop_of_length-le rules p)

@@ -1,12 +1,12 @@
 -- Two replies that the contract of the search for a place allows are equal, said of the contract itself: the rule and the place are those
 -- that the definition takes, and the subterm there and the table follow. Assumes nothing.
 use Prim.Native.Nat.{ℕ}
-use mathlib.Core.Bool.{Bool, true, false}
 use mathlib.Core.List.{List}
 use mathlib.Core.Path.{◌≡◌, refl, sym, ap, ap₂, subst, ◌∙◌}
 use borrow.Fn.Kinds.{Dens, ended_of}
 use contract.Lifetimes.{Lfts}
 use denote.Triple.Clauses.{AtExit}
+use Rattle.std.specs.Prelude.{Option as Maybe, Some, None}
 use Rattle.term.specs.Term.{Term}
 use Rattle.term.specs.At.{At}
 use Rattle.term.proofs.At.{at_unique}
@@ -38,16 +38,16 @@ module _ {bytes arities : List ℕ} {rules : List Rule} {t : Term} where
       ap₂ {C = Place} (λ (u e : ℕ). record { at = u; end = e; fit = a.fit }) at end
       ∙ ap {B = Place} (λ (x : Fit). record { at = b.at; end = b.end; fit = x }) fit
 
-  place_once : (a b : Place) → FirstPlace bytes arities rules t a → FirstPlace bytes arities rules t b → a ≡ b
-  place_once a b p q = go a.fit.table.fits b.fit.table.fits refl refl
-    where
-      go : (x y : Bool) → a.fit.table.fits ≡ x → b.fit.table.fits ≡ y → a ≡ b
-      go true true r s = step_once a b (p.there r) (q.there s)
-      go true false r s = absurd (found_nothing (q.nowhere s).0 (p.there r).is_taken)
-      go false true r s = absurd (found_nothing (p.nowhere r).0 (q.there s).is_taken)
-      go false false r s = (p.nowhere r).1 ∙ sym (q.nowhere s).1
+place_once :
+    (bytes arities : List ℕ) (rules : List Rule) (t : Term) (a b : Maybe Place) → FirstPlace bytes arities rules t a →
+    FirstPlace bytes arities rules t b → a ≡ b
+unfolding FirstPlace
+place_once bytes arities rules t None None p q = refl
+place_once bytes arities rules t None (Some b) p q = absurd (found_nothing p q.is_taken)
+place_once bytes arities rules t (Some a) None p q = absurd (found_nothing q p.is_taken)
+place_once bytes arities rules t (Some a) (Some b) p q = ap {B = Maybe Place} Some (step_once a b p q)
 
 pub first_place_settled :
-    (κs : Lfts 2) (a : Dens κs first_place_kinds.ps) (r r' : Place) (e e' : AtExit (ended_of 2 first_place_kinds.ps first_place_kinds.r) κs) →
+    (κs : Lfts 3) (a : Dens κs first_place_kinds.ps) (r r' : Maybe Place) (e e' : AtExit (ended_of 3 first_place_kinds.ps first_place_kinds.r) κs) →
     first_place.Pre κs a → first_place.Post κs a r e → first_place.Post κs a r' e' → r ≡ r'
-first_place_settled κs a r r' e e' (read, whole) p p' = place_once r r' (p whole.term whole.stands) (p' whole.term whole.stands)
+first_place_settled κs a r r' e e' whole p p' = place_once _ _ _ whole.term r r' (p whole.term whole.stands) (p' whole.term whole.stands)

@@ -1,4 +1,4 @@
 pub mod Alike
 pub mod Table
-pub mod Runnable
+pub mod RulesIn
 pub mod FirstPlace

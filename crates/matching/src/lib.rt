@@ -3,82 +3,63 @@
 
 mod table;
 
-ghost use Rattle.std.specs.Prelude.{ℕ, List, length};
+ghost use Rattle.std.specs.Prelude.{ℕ, length};
 ghost use Rattle.term.specs.Term.{Term};
 ghost use Rattle.term.specs.At.{At, Standing};
-ghost use Rattle.book.specs.Book.{Rule};
-ghost use Rattle.book.specs.WasRead.{ReadFrom};
-ghost use Rattle.matching.specs.Runnable.{rules_in};
-ghost use Rattle.matching.specs.FirstPlace.{LeftsAt, Lefts, Whole, FirstRule, FirstPlace};
+ghost use Rattle.book.specs.BookOf.{book_of};
+ghost use Rattle.matching.specs.FirstPlace.{Whole, FirstRule, FirstPlace};
 
-use book::Book;
+use book::read::ReadBook;
 use building::{Fit, Place};
-use table::{begins_alike, matched, nothing_fits};
+use table::{begins_alike, matched};
+use term::Terms;
 
-// The rule with the lowest number that fits the subterm at this place. The places of the left sides are lent: a read book by value
-// would be copied for every place that is tried.
-fn first_rule(
-    book: &[u8],
-    rules: usize,
-    left_at: &[usize; 32],
-    left_nodes: &[usize; 32],
-    arities: [u8; 16],
-    bytes: &[u8],
-    at: usize,
-) -> Fit
-    requires lefts { Lefts book.now arities rules left_at.now left_nodes.now }
-    requires standing { Standing bytes.now arities at }
-    ensures { (rs : List Rule) (s : Term) (e : ℕ) → LeftsAt book.now arities rules left_at.now left_nodes.now rs →
-        At bytes.now arities at s e → FirstRule bytes.now arities rs s at result }
+// The rule with the lowest number that fits the subterm at this place.
+#[tactic(auto, using(crate::proofs::LeftsAt::few_rules))]
+fn first_rule(book: &ReadBook, bytes: &[u8], at: usize) -> Option<Fit>
+    requires { Standing bytes.now book.now.places.arities at }
+    ensures { (s : Term) (e : ℕ) → At bytes.now book.now.places.arities at s e →
+        FirstRule bytes.now book.now.places.arities (book_of book.now).rules s at result }
 {
-    let mut rule = 0;
-    while rule < rules {
-        let left = left_at[rule];
-        if begins_alike(book, left, bytes, at) {
-            let end = left + 2 * left_nodes[rule];
-            let table = matched(book, left, end, bytes, at, arities);
-            if table.fits {
-                return Fit { rule, table };
+    let terms = Terms {
+        bytes,
+        arities: book.places.arities,
+    };
+    for (rule, places) in book.places.places[..book.places.rules].iter().enumerate() {
+        let left = places.left;
+        if begins_alike(book.bytes, left.at, &terms, at) {
+            let end = left.at + 2 * left.nodes;
+            if let Some(table) = matched(book.bytes, left.at, end, &terms, at) {
+                return Some(Fit { rule, table });
             }
         }
-        rule += 1;
     }
-    Fit {
-        rule,
-        table: nothing_fits(),
-    }
+    None
 }
 
 // The places in prefix order, each tried once. Where a rule fits, a place inside the subterm comes earlier in postorder and every
 // place behind it later: so the place is kept, and the search goes on inside.
-pub fn first_place(book: &[u8], places: Book, bytes: &[u8]) -> Place
-    requires read_from { ReadFrom book.now places }
-    requires whole { Whole bytes.now places.arities }
-    ensures { (t : Term) → At bytes.now places.arities 0 t (length bytes.now) →
-        FirstPlace bytes.now places.arities (rules_in book.now places) t result }
+pub fn first_place(book: &ReadBook, bytes: &[u8]) -> Option<Place>
+    requires { Whole bytes.now book.now.places.arities }
+    ensures { (t : Term) → At bytes.now book.now.places.arities 0 t (length bytes.now) →
+        FirstPlace bytes.now book.now.places.arities (book_of book.now).rules t result }
 {
-    let rules = places.rules;
-    let left_at = places.left_at;
-    let left_nodes = places.left_nodes;
-    let arities = places.arities;
-    let mut bound = bytes.len();
-    let table = nothing_fits();
-    let none = Fit { rule: 0, table };
-    let mut first = Place {
-        at: 0,
-        end: bound,
-        fit: none,
+    let terms = Terms {
+        bytes,
+        arities: book.places.arities,
     };
+    let mut first = None;
+    let mut bound = bytes.len();
     let mut at = 0;
+    // No `for`: the bound falls on the way, so its body would begin with a test and a break.
     while at < bound {
-        let fit = first_rule(book, rules, &left_at, &left_nodes, arities, bytes, at);
-        if fit.table.fits {
-            bound = term::end_of(bytes, arities, at);
-            first = Place {
+        if let Some(fit) = first_rule(book, bytes, at) {
+            bound = terms.end_of(at);
+            first = Some(Place {
                 at,
                 end: bound,
                 fit,
-            };
+            });
         }
         at += 2;
     }

@@ -1,3 +1,2 @@
 pub mod Small
-pub mod Counted
 pub mod Settled

@@ -12,10 +12,11 @@ ghost use Rattle.clause_bytes.specs.Meaning.{meant};
 ghost use Rattle.clauses.specs.Pairs.{Pair, other_symbol};
 ghost use Rattle.pair_blocks.specs.EachTwo.{each_two};
 
-use clause_bytes::writing::{Literal, write_clause_of_three, write_clause_of_two};
+use clause_bytes::writing::{Literal, write_clause};
 use numbering::larger_number;
 
 // "bit b of symbol f (b = 0 is the lowest): f·k + b + 1", of either symbol of a pair.
+#[tactic(auto, unfolding(clauses::specs::Numbering::bit))]
 fn bit_number(k: usize, f: usize, b: usize) -> usize
     requires { (f < 16) × (k ≤ 4) × (b < 4) }
     ensures { result ≡ bit k f b }
@@ -27,12 +28,10 @@ fn bit_number(k: usize, f: usize, b: usize) -> usize
 fn write_lowest_bit(larger: usize, a: usize, b: usize, out: &mut [u8]) -> usize
     ensures { Lays (flat_map clause_bytes (lowest_bit larger a b)) out.old result out.new }
 {
-    let mut at = write_clause_of_two(Literal::IsNot(larger), Literal::Is(a), out);
-    at += write_clause_of_two(Literal::IsNot(larger), Literal::IsNot(b), &mut out[at..]);
-    at + write_clause_of_three(
-        Literal::Is(larger),
-        Literal::IsNot(a),
-        Literal::Is(b),
+    let mut at = write_clause(&[Literal::IsNot(larger), Literal::Is(a)], out);
+    at += write_clause(&[Literal::IsNot(larger), Literal::IsNot(b)], &mut out[at..]);
+    at + write_clause(
+        &[Literal::Is(larger), Literal::IsNot(a), Literal::Is(b)],
         &mut out[at..],
     )
 }
@@ -41,9 +40,9 @@ fn write_lowest_bit(larger: usize, a: usize, b: usize, out: &mut [u8]) -> usize
 fn write_each_two(whole: Literal, x: Literal, y: Literal, z: Literal, out: &mut [u8]) -> usize
     ensures { Lays (flat_map clause_bytes (each_two (meant whole) (meant x) (meant y) (meant z))) out.old result out.new }
 {
-    let mut at = write_clause_of_three(whole, x, y, out);
-    at += write_clause_of_three(whole, x, z, &mut out[at..]);
-    at + write_clause_of_three(whole, y, z, &mut out[at..])
+    let mut at = write_clause(&[whole, x, y], out);
+    at += write_clause(&[whole, x, z], &mut out[at..]);
+    at + write_clause(&[whole, y, z], &mut out[at..])
 }
 
 // "for larger j (G −a b)(G −a −q)(G b −q)(−G a −b)(−G a q)(−G −b q)"
@@ -82,20 +81,20 @@ fn write_pair_clauses(n: usize, k: usize, f: usize, g: usize, b: usize, out: &mu
 }
 
 // The block of a pair: its clauses at each bit.
+#[tactic(auto, using(clause_bytes::proofs::EachLaid::none_laid))]
 fn write_pair_block(n: usize, k: usize, f: usize, g: usize, out: &mut [u8]) -> usize
     requires { Pair n f g × (k ≤ 4) }
     ensures { Lays (flat_map clause_bytes (pair_block n k f g)) out.old result out.new }
 {
     let mut at = 0;
-    let mut b = 0;
-    while b < k {
+    for b in 0..k {
         at += write_pair_clauses(n, k, f, g, b, &mut out[at..]);
-        b += 1;
     }
     at
 }
 
 // The symbol with number r among those besides f.
+#[tactic(auto, unfolding(clauses::specs::Pairs::other_symbol))]
 fn other_symbol(f: usize, r: usize) -> usize
     requires { r < 16 }
     ensures { result ≡ other_symbol f r }

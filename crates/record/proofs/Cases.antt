@@ -4,13 +4,13 @@ use Prim.Native.Nat.{ℕ}
 use mathlib.Core.Path.{◌≡◌, refl}
 use mathlib.Core.List.{List, [], ◌∷◌, ◌++◌, flatten, map}
 use lib.ListN.{replicate}
+use Rattle.std.specs.Prelude.{Ok, Err}
 use Rattle.reply.specs.Reply.{given, refused, ◌at◌}
 use Rattle.term.specs.Term.{app, nil, cons}
 use Rattle.record.specs.Record.{record_bytes, record_term, read_record}
 use Rattle.record.specs.Meaning.{record_verdict}
 use Rattle.record.specs.Examples.{one_and_none}
 use Rattle.record.specs.Computing.{computing}
-use Rattle.record.specs.declared.RecordVerdict.TheVariants.{Whole, Faulty}
 use Rattle.record.specs.declared.RecordFault.TheVariants.{EndedEarly, WrongKind, NotDeclared, TooManyNodes, AfterTheTerm}
 
 its_bytes_lem : record_bytes (app 2 (cons (app 1 (cons (app 0 nil) nil)) (cons (app 0 nil) nil))) ≡ one_and_none
@@ -66,6 +66,6 @@ any_fault_is_11_at_0 = refl
 answers :
     map (λ bytes. record_verdict (record_term (0 ∷ 1 ∷ 2 ∷ []) bytes))
     (one_and_none ∷ [] ∷ (3 ∷ 0 ∷ []) ∷ (4 ∷ 0 ∷ 5 ∷ []) ∷ (3 ∷ 3 ∷ 5 ∷ []) ∷ (3 ∷ 0 ∷ 5 ∷ 5 ∷ []) ∷ (3 ∷ 0 ∷ 3 ∷ []) ∷ [])
-    ≡ Whole 4 ∷ map Faulty (EndedEarly 0 ∷ EndedEarly 2 ∷ WrongKind 0 ∷ NotDeclared 1 ∷ AfterTheTerm 3 ∷ AfterTheTerm 2 ∷ [])
+    ≡ Ok 4 ∷ map Err (EndedEarly 0 ∷ EndedEarly 2 ∷ WrongKind 0 ∷ NotDeclared 1 ∷ AfterTheTerm 3 ∷ AfterTheTerm 2 ∷ [])
 unfolding computing
 answers = refl

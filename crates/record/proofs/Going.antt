@@ -9,17 +9,18 @@ use borrow.Author.Tests.{eq-eqb, ne_eqb}
 use lib.Dec.{eqb→eq, leb→le, ltb→lt}
 use lib.ListN.{length, get_or, drop, length-append}
 use lib.Seq.{drop-drop}
+use Rattle.std.specs.Prelude.{Ok, Err}
 use Rattle.reply.specs.Reply.{Attempt, given, refused, ◌>>◌, ◌>>=◌}
+use Rattle.reply.specs.Replied.{result_of}
 use Rattle.term.specs.Tables.{body_length, body_lengths}
+use Rattle.term.specs.Term.{Term, size}
 use Rattle.term.specs.Prefix.{Node, symbolic, tree}
 use Rattle.reply.proofs.Given.{refused_not_given, unless_given, given_bind}
 use Rattle.record.specs.Record.{record_node, record_end, OneTerm, nodes_from, one_term, record_term}
-use Rattle.record.specs.Meaning.{record_verdict, term_found, node_found, end_found}
-use Rattle.record.specs.declared.NodeFound as node
+use Rattle.record.specs.Meaning.{record_verdict, term_found}
 use Rattle.record.specs.declared.RecordFault.{RecordFault}
 use Rattle.record.specs.declared.RecordFault.TheVariants.{EndedEarly}
-use Rattle.record.specs.declared.RecordVerdict.TheVariants.{Whole, Faulty}
-use Rattle.record.specs.declared.TermFound as term
+use Rattle.record.specs.declared.TermEnds.{TermEnds}
 use Rattle.record.proofs.ReadRecord.{term_nodes, term_rest}
 use Rattle.record.proofs.Steps.{node_tests, no_node, tests}
 
@@ -75,16 +76,17 @@ node_passed bytes n nodes p f e =
       | no none ↦ absurd (refused_not_given (EndedEarly (length bytes)) f (sym (no_node bytes n nodes p (omega arith)) ∙ e))
     ]
 
--- What the answer for a node tells of it.
-pub found_symbol : (x : Attempt RecordFault ℕ) (f : ℕ) → node_found x ≡ node.TheVariants.Symbol f → x ≡ given f
-unfolding node_found
-found_symbol (given g) f e = cc
-found_symbol (refused g) f e = let z : ◌≡◌ {A = ℕ} 0 1 = cc in absurd (omega arith)
+-- What an answer of the code tells of the attempt that it answers.
+module _ {A : Type 0} where
+  pub was_given : (x : Attempt RecordFault A) (a : A) → result_of x ≡ Ok a → x ≡ given a
+  unfolding result_of
+  was_given (given b) a e = cc
+  was_given (refused g) a e = cc
 
-pub found_faulty : (x : Attempt RecordFault ℕ) (f : RecordFault) → node_found x ≡ node.TheVariants.Faulty f → x ≡ refused f
-unfolding node_found
-found_faulty (given g) f e = let z : ◌≡◌ {A = ℕ} 0 1 = cc in absurd (omega arith)
-found_faulty (refused g) f e = cc
+  pub was_refused : (x : Attempt RecordFault A) (f : RecordFault) → result_of x ≡ Err f → x ≡ refused f
+  unfolding result_of
+  was_refused (given b) f e = cc
+  was_refused (refused g) f e = cc
 
 module _ (bytes arities : List ℕ) (missing nodes p : ℕ) (g : NodesGoing bytes arities missing nodes p) where
   -- There is fuel for one node more.
@@ -154,34 +156,49 @@ module _ (bytes arities : List ℕ) (missing nodes p : ℕ) (g : NodesGoing byte
   unfolding one_term nodes_from
   term_ends none = with_fuel (λ fuel enough same. sym same ∙ rw (nodes_from, eq-eqb missing 0 none))
 
--- What is found at the end of a term is the answer for its record.
-pub end_answers :
-    (bytes arities : List ℕ) (found : OneTerm) → one_term arities bytes ≡ given found →
-    end_found (length found.nodes) (record_end (length bytes) found.behind (drop found.behind bytes)) ≡ record_verdict (record_term arities bytes)
-unfolding record_term end_found record_verdict ◌>>◌ ◌>>=◌
-end_answers bytes arities found is =
-    ap (λ (l : List ℕ). end_found (length found.nodes) (record_end (length bytes) found.behind l)) (sym (term_rest arities bytes found is))
-    ∙ go (record_end (length bytes) found.behind found.rest)
-    ∙ ap record_verdict (sym (given_bind (one_term arities bytes) _ found is))
-  where
-    go :
-        (x : Attempt RecordFault (Unit {0})) → end_found (length found.nodes) x ≡ record_verdict (◌>>◌ x (given (tree arities found.nodes)))
-    go (given t) = ap Whole (sym (term_nodes arities bytes found is))
-    go (refused f) = refl
+-- What the answer for a term tells of it.
+pub found_ends : (x : Attempt RecordFault OneTerm) (ends : TermEnds) → term_found x ≡ Ok ends →
+    (found : OneTerm) × (x ≡ given found) × (length found.nodes ≡ ends.nodes) × (found.behind ≡ ends.behind)
+unfolding term_found
+found_ends (given found) ends e = (found, refl, cc, cc)
+found_ends (refused g) ends e = cc
+
+pub found_fault : (x : Attempt RecordFault OneTerm) (f : RecordFault) → term_found x ≡ Err f → x ≡ refused f
+unfolding term_found
+found_fault (given found) f e = cc
+found_fault (refused g) f e = cc
 
 -- A term that is faulty is a faulty record.
-pub fault_answers : (bytes arities : List ℕ) (f : RecordFault) → one_term arities bytes ≡ refused f → record_verdict (record_term arities bytes) ≡ Faulty f
+pub fault_answers : (bytes arities : List ℕ) (f : RecordFault) → term_found (one_term arities bytes) ≡ Err f → Err f ≡ record_verdict (record_term arities bytes)
 unfolding record_term record_verdict ◌>>=◌
-fault_answers bytes arities f is = rw is
+fault_answers bytes arities f e = let is : one_term arities bytes ≡ refused f = found_fault (one_term arities bytes) f e in rw is
 
--- What the answer for a term tells of it.
-pub found_ends : (x : Attempt RecordFault OneTerm) (nodes behind : ℕ) → term_found x ≡ term.TheVariants.Ends nodes behind →
-    (found : OneTerm) × (x ≡ given found) × (length found.nodes ≡ nodes) × (found.behind ≡ behind)
-unfolding term_found
-found_ends (given found) nodes behind e = (found, refl, cc, cc)
-found_ends (refused g) nodes behind e = let z : ◌≡◌ {A = ℕ} 0 1 = cc in absurd (omega arith)
+-- Behind a whole one its end decides.
+module _ (bytes arities : List ℕ) (ends : TermEnds) (its : term_found (one_term arities bytes) ≡ Ok ends) where
+  -- What is found at the end.
+  abbrev end_here : Attempt RecordFault (Unit {0})
+  end_here = record_end (length bytes) ends.behind (drop ends.behind bytes)
 
-pub found_fault : (x : Attempt RecordFault OneTerm) (f : RecordFault) → term_found x ≡ term.TheVariants.Faulty f → x ≡ refused f
-unfolding term_found
-found_fault (given found) f e = let z : ◌≡◌ {A = ℕ} 0 1 = cc in absurd (omega arith)
-found_fault (refused g) f e = cc
+  decides :
+      (x : Attempt RecordFault (Unit {0})) → end_here ≡ x →
+      (t : Term) × (size t ≡ ends.nodes) × (record_term arities bytes ≡ ◌>>◌ x (given t))
+  unfolding record_term
+  decides x e =
+      let (found, is, many, place) = found_ends (one_term arities bytes) ends its in
+      let same : record_end (length bytes) found.behind found.rest ≡ x =
+      ap (record_end (length bytes) found.behind) (term_rest arities bytes found is)
+      ∙ ap (λ (p : ℕ). record_end (length bytes) p (drop p bytes)) place
+      ∙ e
+      in (
+        tree arities found.nodes,
+        term_nodes arities bytes found is ∙ many,
+        given_bind (one_term arities bytes) _ found is ∙ ap (λ (y : Attempt RecordFault (Unit {0})). ◌>>◌ y (given (tree arities found.nodes))) same,
+      )
+
+  pub end_faulty : (f : RecordFault) → result_of end_here ≡ Err f → Err f ≡ record_verdict (record_term arities bytes)
+  unfolding record_verdict ◌>>◌
+  end_faulty f e = let (t, many, is) = decides (refused f) (was_refused end_here f e) in sym (ap record_verdict is)
+
+  pub end_whole : (u : Unit {0}) → result_of end_here ≡ Ok u → Ok ends.nodes ≡ record_verdict (record_term arities bytes)
+  unfolding record_verdict ◌>>◌
+  end_whole u e = let (t, many, is) = decides (given u) (was_given end_here u e) in ap Ok (sym many) ∙ sym (ap record_verdict is)

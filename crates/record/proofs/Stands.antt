@@ -4,10 +4,10 @@ use Prim.Native.Nat.{ℕ, ◌*◌, ◌≤◌}
 use mathlib.Core.List.{List, [], ◌∷◌, ◌++◌}
 use mathlib.Core.Path.{◌≡◌, refl, ap, subst, ◌∙◌}
 use native.Mathlib.Nat.{zero-add}
-use native.Mathlib.Omega.{arith}
 use lib.Dec.{T}
 use lib.ListN.{length, take, drop}
 use lib.Seq.{take-append_seam}
+use Rattle.std.specs.Prelude.{Ok}
 use Rattle.reply.specs.Reply.{Attempt, given, refused, told_as}
 use Rattle.term.specs.Term.{Term, size, over, variable_free}
 use Rattle.term.specs.Prefix.{prefix}
@@ -18,7 +18,6 @@ use Rattle.term.proofs.TreeBack.{tree_back}
 use Rattle.record.specs.Record.{record_bytes, refusal_of, record_term, read_record}
 use Rattle.record.specs.Meaning.{record_meaning, record_verdict}
 use Rattle.record.specs.declared.RecordFault.{RecordFault}
-use Rattle.record.specs.declared.RecordVerdict.TheVariants.{Whole}
 use Rattle.record.proofs.ReadRecord.{record_read}
 
 -- What the term of a record keeps to.
@@ -61,12 +60,12 @@ pub record WholeTerm (bytes : List ℕ) (symbols : ℕ) (table : List ℕ) (node
   pub stands : At bytes table 0 term (2 * nodes)
 
 pub whole_stands :
-    (bytes : List ℕ) (symbols : ℕ) (table : List ℕ) (nodes : ℕ) → Whole nodes ≡ record_verdict (record_term (take symbols table) bytes) →
+    (bytes : List ℕ) (symbols : ℕ) (table : List ℕ) (nodes : ℕ) → Ok nodes ≡ record_verdict (record_term (take symbols table) bytes) →
     WholeTerm bytes symbols table nodes
 unfolding record_verdict
 whole_stands bytes symbols table nodes settled = go (record_term (take symbols table) bytes) refl settled
   where
-    go : (x : Attempt RecordFault Term) → record_term (take symbols table) bytes ≡ x → Whole nodes ≡ record_verdict x → WholeTerm bytes symbols table nodes
+    go : (x : Attempt RecordFault Term) → record_term (take symbols table) bytes ≡ x → Ok nodes ≡ record_verdict x → WholeTerm bytes symbols table nodes
     go (given t) e w =
         let read : TermRead (take symbols table) bytes t = term_read (take symbols table) bytes t e in
         let many : size t ≡ nodes = cc in
@@ -77,4 +76,4 @@ whole_stands bytes symbols table nodes settled = go (record_term (take symbols t
           node_count = many;
           stands = at_table symbols table (subst (λ (n : ℕ). At bytes (take symbols table) 0 t (2 * n)) many read.stands);
         }
-    go (refused f) e w = let z : ◌≡◌ {A = ℕ} 0 1 = cc in absurd (omega arith)
+    go (refused f) e w = cc

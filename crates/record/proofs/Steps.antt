@@ -1,5 +1,7 @@
 -- Reading a record node by node, at its places: what each test finds there. Assumes nothing.
 use Prim.Native.Nat.{ℕ, ◌+◌, ◌≤◌, ◌<◌}
+use native.Mathlib.Omega.{arith}
+use mathlib.Core.Bool.{true}
 use mathlib.Core.List.{List, [], ◌∷◌}
 use mathlib.Core.Path.{◌≡◌, sym, ap, ◌∙◌}
 use native.Mathlib.Nat.{add-zero}
@@ -9,7 +11,7 @@ use lib.Dec.{leb, ltb, eqb}
 use lib.ListN.{length, get_or, drop, drop_of_length-le}
 use lib.Seq.{drop-cons, get_or-drop}
 use Rattle.reply.specs.Reply.{Attempt, given, refused, unless, ◌>>◌}
-use Rattle.term.specs.Tables.{body_length}
+use Rattle.term.specs.Tables.{body_length, body_lengths}
 use Rattle.record.specs.Record.{record_node, record_end}
 use Rattle.record.specs.declared.RecordFault.{RecordFault}
 use Rattle.record.specs.declared.RecordFault.TheVariants.{EndedEarly, WrongKind, NotDeclared, TooManyNodes, AfterTheTerm}
@@ -47,29 +49,33 @@ module _ (bytes : List ℕ) (n nodes p : ℕ) where
     wrong_kind other = tests ∙ rw (node_tests, ne_eqb (get_or bytes p 0) 3 other)
 
     module _ (is : get_or bytes p 0 ≡ 3) where
-      pub node_cut : length bytes < p + 1 + body_length (get_or bytes p 0) → record_node n (length bytes) nodes p (drop p bytes) ≡ refused (EndedEarly (length bytes))
-      unfolding node_tests unless ◌>>◌
-      node_cut cut = tests ∙ rw (node_tests, eq-eqb (get_or bytes p 0) 3 is, lt-leb (p + 1 + body_length (get_or bytes p 0)) (length bytes) cut)
+      -- A symbol node's body has one byte.
+      body_end : p + 1 + body_length (get_or bytes p 0) ≡ p + 1 + 1
+      unfolding body_length body_lengths
+      body_end = ap (λ (k : ℕ). p + 1 + body_length k) is
 
-      module _ (whole : p + 1 + body_length (get_or bytes p 0) ≤ length bytes) where
+      pub node_cut : length bytes ≤ p + 1 → record_node n (length bytes) nodes p (drop p bytes) ≡ refused (EndedEarly (length bytes))
+      unfolding node_tests unless ◌>>◌
+      node_cut cut = tests ∙ rw (node_tests, eq-eqb (get_or bytes p 0) 3 is, lt-leb (p + 1 + body_length (get_or bytes p 0)) (length bytes) (omega (arith, body_end)))
+
+      module _ (there : p + 1 < length bytes) where
+        whole : leb (p + 1 + body_length (get_or bytes p 0)) (length bytes) ≡ true
+        whole = le-leb (p + 1 + body_length (get_or bytes p 0)) (length bytes) (omega (arith, body_end))
+
         pub not_declared : n ≤ get_or bytes (p + 1) 0 → record_node n (length bytes) nodes p (drop p bytes) ≡ refused (NotDeclared (p + 1))
         unfolding node_tests unless ◌>>◌
-        not_declared other =
-            tests
-            ∙ rw (node_tests, eq-eqb (get_or bytes p 0) 3 is, le-leb (p + 1 + body_length (get_or bytes p 0)) (length bytes) whole, le-ltb (get_or bytes (p + 1) 0) n other)
+        not_declared other = tests ∙ rw (node_tests, eq-eqb (get_or bytes p 0) 3 is, whole, le-ltb (get_or bytes (p + 1) 0) n other)
 
         module _ (is_declared : get_or bytes (p + 1) 0 < n) where
           pub too_many : 256 ≤ nodes → record_node n (length bytes) nodes p (drop p bytes) ≡ refused (TooManyNodes p)
           unfolding node_tests unless ◌>>◌
           too_many many =
-              tests
-              ∙ rw (node_tests, eq-eqb (get_or bytes p 0) 3 is, le-leb (p + 1 + body_length (get_or bytes p 0)) (length bytes) whole, lt-ltb (get_or bytes (p + 1) 0) n is_declared, le-ltb nodes 256 many)
+              tests ∙ rw (node_tests, eq-eqb (get_or bytes p 0) 3 is, whole, lt-ltb (get_or bytes (p + 1) 0) n is_declared, le-ltb nodes 256 many)
 
           pub node_given : nodes < 256 → record_node n (length bytes) nodes p (drop p bytes) ≡ given (get_or bytes (p + 1) 0)
           unfolding node_tests unless ◌>>◌
           node_given room =
-              tests
-              ∙ rw (node_tests, eq-eqb (get_or bytes p 0) 3 is, le-leb (p + 1 + body_length (get_or bytes p 0)) (length bytes) whole, lt-ltb (get_or bytes (p + 1) 0) n is_declared, lt-ltb nodes 256 room)
+              tests ∙ rw (node_tests, eq-eqb (get_or bytes p 0) 3 is, whole, lt-ltb (get_or bytes (p + 1) 0) n is_declared, lt-ltb nodes 256 room)
 
 -- The end record by its bytes.
 other_kind : (len p k : ℕ) (rest : List ℕ) → (k ≡ 5 → ⊥) → record_end len p (k ∷ rest) ≡ refused (AfterTheTerm p)

@@ -1,7 +1,7 @@
 -- A key for computed cases: what opens it may compute with every definition of this crate and of those below.
 use Rattle.term.specs.Computing
 use Rattle.record.specs.Record.{record_bytes, fault_refusal, refusal_of, record_node, record_end, nodes_from, one_term, record_term, read_record}
-use Rattle.record.specs.Meaning.{record_meaning, record_verdict, term_found, node_found, end_found}
+use Rattle.record.specs.Meaning.{record_meaning, record_verdict, term_found}
 use Rattle.record.specs.Examples.{one_and_none}
 
 unfoldable reading : Unit {0}
@@ -9,5 +9,5 @@ unfolding record_bytes fault_refusal refusal_of record_node record_end nodes_fro
 reading = tt
 
 unfoldable pub computing : Unit {0}
-unfolding Computing.computing reading record_meaning record_verdict term_found node_found end_found one_and_none
+unfolding Computing.computing reading record_meaning record_verdict term_found one_and_none
 computing = tt

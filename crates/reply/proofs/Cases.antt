@@ -1,8 +1,8 @@
 -- Cases of this crate's definitions, computed. Assumes nothing.
 use Prim.Native.Nat.{ℕ}
 use mathlib.Core.Path.{◌≡◌, refl}
-use mathlib.Core.List.{List, [], ◌∷◌}
-use Rattle.reply.specs.Reply.{Reply, Attempt, given, refused, unless, ◌>>◌, ◌>>=◌, ◌at◌}
+use mathlib.Core.List.{[], ◌∷◌}
+use Rattle.reply.specs.Reply.{given, refused, unless, ◌>>◌, ◌at◌}
 use Rattle.reply.specs.Lent.{laid}
 use Rattle.reply.specs.Computing.{computing}
 use mathlib.Core.Bool.{true, false}

@@ -1,7 +1,6 @@
 -- A refusal can be told from its number and its place. By the cases of the table. Assumes nothing.
-use mathlib.Core.Option.{Option, none, some}
+use mathlib.Core.Option.{Option, some}
 use mathlib.Core.Path.{◌≡◌, refl, sym, ap, ◌∙◌}
-use Rattle.reply.specs.Reply.{Refusal}
 use Rattle.reply.specs.Refusals.{numbered, rows, named}
 use Rattle.reply.specs.declared.Refusal.{Refusal as Named}
 use Rattle.reply.specs.declared.Refusal.TheVariants.{

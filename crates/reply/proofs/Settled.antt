@@ -4,8 +4,8 @@ use contract.Lifetimes.{Lfts}
 use borrow.Fn.Kinds.{Dens, ended_of}
 use denote.Triple.Clauses.{AtExit}
 use Rattle.reply.specs.declared.NumberAt.{NumberAt}
-use Rattle.reply.proofs.numbered.Kinds as numbered_kinds
-use Rattle.reply.proofs.numbered.Reads as numbered
+use Rattle.reply.proofs.NumberAtFromRefusal.from.Kinds as numbered_kinds
+use Rattle.reply.proofs.NumberAtFromRefusal.from.Reads as numbered
 
 -- The number and the place of a refusal.
 pub numbered_settled :

@@ -1,4 +1,5 @@
 pub mod Reply
 pub mod Refusals
 pub mod Lent
+pub mod Replied
 pub mod Computing

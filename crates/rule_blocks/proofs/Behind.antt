@@ -11,10 +11,10 @@ use Rattle.term.specs.At.{At, ArgsAt}
 use Rattle.term.proofs.At.{args_none}
 use Rattle.clauses.specs.Numbering.{C}
 use Rattle.clauses.specs.Blocks.{Numbered, numbered_args, Setting, CAt, parts_behind}
-use Rattle.rule_blocks.specs.Nodes.{setting_of, WithinMaximum}
+use Rattle.rule_blocks.specs.Nodes.{setting_of, WithinMaximum, NodesAt}
 use Rattle.rule_blocks.specs.declared.PlacedRule.{PlacedRule}
 use Rattle.numbering.proofs.Small.{product}
-use Rattle.rule_blocks.proofs.Walk.{FirstNode, first_node}
+use Rattle.rule_blocks.proofs.Walk.{FirstNode, first_node, nodes_others}
 
 map_same : {A B : Type 0} (f g : A → B) → ((x : A) → f x ≡ g x) → (l : List A) → map f l ≡ map g l
 map_same f g h [] = refl
@@ -97,3 +97,64 @@ module _
       ∙ ap (λ (n : ℕ). CAt c a b ∷ map (λ (t : Numbered). CAt c u t.node) (numbered_args n other.others)) (sym at_b)
       ∙ rw (← differ, parts_behind) refl
       ∙ by_first one other
+
+-- A walk that has passed some of the arguments of both, which are identical pair by pair: the parts of those that are left are the parts
+-- of all.
+pub record Alike (bytes arities : List ℕ) (c : Setting) (u left₀ right₀ a₀ b₀ many₀ a b many : ℕ) : Type 0 where
+  pub left : NodesAt bytes arities left₀ a many
+  pub right : NodesAt bytes arities right₀ b many
+  pub all :
+      (found : List ℕ) →
+      ((ss ts : Args) (d e : ℕ) → ArgsAt bytes arities many (left₀ + 2 * a) ss d → ArgsAt bytes arities many (right₀ + 2 * b) ts e →
+      found ≡ parts_behind c u (numbered_args a ss) (numbered_args b ts)) →
+      (ss ts : Args) (d e : ℕ) → ArgsAt bytes arities many₀ (left₀ + 2 * a₀) ss d → ArgsAt bytes arities many₀ (right₀ + 2 * b₀) ts e →
+      found ≡ parts_behind c u (numbered_args a₀ ss) (numbered_args b₀ ts)
+
+pub alike_none :
+    {bytes arities : List ℕ} {c : Setting} {u left₀ right₀ a₀ b₀ many₀ many : ℕ} → many ≡ many₀ → NodesAt bytes arities left₀ a₀ many₀ →
+    NodesAt bytes arities right₀ b₀ many₀ → Alike bytes arities c u left₀ right₀ a₀ b₀ many₀ a₀ b₀ many
+alike_none {bytes} {arities} {c} {u} {left₀} {right₀} {a₀} {b₀} {many₀} e hs ht =
+    subst (Alike bytes arities c u left₀ right₀ a₀ b₀ many₀ a₀ b₀) (sym e) record { left = hs; right = ht; all = λ found later. later }
+
+module _
+    {bytes arities : List ℕ} {c : Setting} {u left₀ right₀ a₀ b₀ many₀ a b many : ℕ}
+    (passed : Alike bytes arities c u left₀ right₀ a₀ b₀ many₀ a b many) where
+  pub alike_one :
+      {after behind many' : ℕ} → many' + 1 ≡ many →
+      ((s t : Term) (d e : ℕ) → At bytes arities (left₀ + 2 * a) s d → At bytes arities (right₀ + 2 * b) t e → true ≡ same s t) →
+      ((s : Term) (d : ℕ) → At bytes arities (left₀ + 2 * a) s d → after ≡ a + size s) →
+      ((t : Term) (e : ℕ) → At bytes arities (right₀ + 2 * b) t e → behind ≡ b + size t) →
+      Alike bytes arities c u left₀ right₀ a₀ b₀ many₀ after behind many'
+  alike_one {after} {behind} {many'} one alike ha hb =
+      let fewer : many - 1 ≡ many' = omega arith in
+      record {
+        left = nodes_others passed.left one ha;
+        right = nodes_others passed.right one hb;
+        all = λ found later.
+            passed.all found
+            (λ ss ts d e hs ht.
+            behind_same c u left₀ a right₀ b many hs ht (omega arith) alike after behind ha hb found
+            (λ ss' ts' d' e' h k.
+            later ss' ts' d' e' (subst (λ (n : ℕ). ArgsAt bytes arities n (left₀ + 2 * after) ss' d') fewer h)
+            (subst (λ (n : ℕ). ArgsAt bytes arities n (right₀ + 2 * behind) ts' e') fewer k)));
+      }
+
+  pub alike_ends :
+      many ≡ 0 → {found : List ℕ} → found ≡ [] → (ss ts : Args) (d e : ℕ) → ArgsAt bytes arities many₀ (left₀ + 2 * a₀) ss d →
+      ArgsAt bytes arities many₀ (right₀ + 2 * b₀) ts e → found ≡ parts_behind c u (numbered_args a₀ ss) (numbered_args b₀ ts)
+  alike_ends none {found} empty = passed.all found (λ ss ts d e hs ht. empty ∙ behind_none c u left₀ a right₀ b many hs ht none)
+
+  pub alike_differs :
+      {behind many' : ℕ} → many' + 1 ≡ many →
+      ((s t : Term) (d e : ℕ) → At bytes arities (left₀ + 2 * a) s d → At bytes arities (right₀ + 2 * b) t e → false ≡ same s t) →
+      ((t : Term) (e : ℕ) → At bytes arities (right₀ + 2 * b) t e → behind ≡ b + size t) → {found : List ℕ} →
+      ((ts : Args) (e : ℕ) → ArgsAt bytes arities many' (right₀ + 2 * behind) ts e →
+      found ≡ CAt c a b ∷ map (λ (t : Numbered). CAt c u t.node) (numbered_args behind ts)) →
+      (ss ts : Args) (d e : ℕ) → ArgsAt bytes arities many₀ (left₀ + 2 * a₀) ss d → ArgsAt bytes arities many₀ (right₀ + 2 * b₀) ts e →
+      found ≡ parts_behind c u (numbered_args a₀ ss) (numbered_args b₀ ts)
+  alike_differs {behind} {many'} one unlike hb {found} later =
+      let fewer : many - 1 ≡ many' = omega arith in
+      passed.all found
+      (λ ss ts d e hs ht.
+      behind_differs c u left₀ a right₀ b many hs ht (omega arith) unlike behind hb found
+      (λ ts' e' k. later ts' e' (subst (λ (n : ℕ). ArgsAt bytes arities n (right₀ + 2 * behind) ts' e') fewer k)))

@@ -7,15 +7,16 @@ use native.Mathlib.Omega.{arith}
 use lib.ListN.{length, get_or}
 use borrow.Author.Tests.{eq-eqb, ne_eqb}
 use Rattle.term.specs.Term.{Term, var, app, size, sizes, count, same}
-use Rattle.term.specs.Root.{arguments}
+use Rattle.std.specs.Prelude.{Some, None}
+use Rattle.std.proofs.lemmas.Option.{same_Some, none-some}
+use Rattle.term.specs.Root.{symbol_of, arguments}
 use Rattle.term.specs.At.{At, ArgsAt, variable_at, symbol_at}
-use Rattle.term.proofs.At.{at_arguments, args_count, symbol_root, variable_root}
+use Rattle.term.proofs.At.{at_arguments, args_count}
 use Rattle.order.specs.Test.{some_arg}
 use Rattle.clauses.specs.Numbering.{G, D}
 use Rattle.clauses.specs.Blocks.{Numbered, numbered_args, Setting, CAt, DAt, parts_behind, parts_of_d, parts_of_c, some_identical}
-use Rattle.rule_blocks.specs.Nodes.{root_of, NodeAt, NodesAt}
+use Rattle.rule_blocks.specs.Nodes.{NodeAt, NodesAt}
 use Rattle.rule_blocks.proofs.Behind.{C_along_left}
-use Rattle.rule_blocks.specs.declared.nodes.Root.TheVariants.{Variable, Symbol}
 
 size_arguments : (t : Term) → size t ≡ suc (sizes (arguments t))
 unfolding size arguments
@@ -47,44 +48,35 @@ pub record SymbolHere (arities : List ℕ) (f : ℕ) (t : Term) : Type 0 where
   pub declared : f < length arities
   pub arity : count (arguments t) ≡ get_or arities f 0
 
-pub symbol_here : {bytes arities : List ℕ} {u : ℕ} {t : Term} {e : ℕ} (f : ℕ) → At bytes arities u t e → root_of t ≡ Symbol f → SymbolHere arities f t
-unfolding root_of arguments
-symbol_here f (variable_at w k b q) root = let z : ◌≡◌ {A = ℕ} 0 1 = cc in absurd (omega arith)
+pub symbol_here : {bytes arities : List ℕ} {u : ℕ} {t : Term} {e : ℕ} (f : ℕ) → At bytes arities u t e → symbol_of t ≡ Some f → SymbolHere arities f t
+unfolding symbol_of arguments
+symbol_here f (variable_at w k b q) root = absurd (none-some _ root)
 symbol_here {arities = arities} f (symbol_at {f = g} {ts = ts} w k b l h) root =
-    let same : g ≡ f = cc in
+    let same : g ≡ f = same_Some _ _ root in
     record {
       is = ap (λ (n : ℕ). app n ts) same;
       declared = subst (λ (n : ℕ). n < length arities) same l;
       arity = args_count h ∙ ap (λ (n : ℕ). get_or arities n 0) same;
     }
 
--- The root, by the byte that stands there.
-pub root_symbol : {bytes arities : List ℕ} {u : ℕ} {t : Term} {e : ℕ} (x : ℕ) → At bytes arities u t e → get_or bytes u 0 ≡ 3 → x ≡ get_or bytes (u + 1) 0 → Symbol x ≡ root_of t
-unfolding root_of
-root_symbol {u = u} x stands k e = ap Symbol e ∙ sym (ap root_of (symbol_root stands k).symbol)
-
-pub root_variable : {bytes arities : List ℕ} {u : ℕ} {t : Term} {e : ℕ} → At bytes arities u t e → (get_or bytes u 0 ≡ 3 → ⊥) → Variable ≡ root_of t
-unfolding root_of
-root_variable stands k = sym (ap root_of (variable_root stands k).variable)
-
 -- D's parts.
 module _ (c : Setting) (u v : ℕ) (s t : Term) where
-  pub d_variable : root_of s ≡ Variable → [] ≡ parts_of_d c u v s t
-  unfolding parts_of_d root_of
+  pub d_variable : symbol_of s ≡ None → [] ≡ parts_of_d c u v s t
+  unfolding parts_of_d symbol_of
   d_variable = go s
     where
-      go : (s : Term) → root_of s ≡ Variable → [] ≡ parts_of_d c u v s t
+      go : (s : Term) → symbol_of s ≡ None → [] ≡ parts_of_d c u v s t
       go (var x) e = refl
-      go (app f ss) e = let z : ◌≡◌ {A = ℕ} 0 1 = cc in absurd (omega arith)
+      go (app f ss) e = absurd (none-some _ (sym e))
 
-  pub d_below_variable : root_of t ≡ Variable → [] ≡ parts_of_d c u v s t
-  unfolding parts_of_d root_of
+  pub d_below_variable : symbol_of t ≡ None → [] ≡ parts_of_d c u v s t
+  unfolding parts_of_d symbol_of
   d_below_variable = go s t
     where
-      go : (s t : Term) → root_of t ≡ Variable → [] ≡ parts_of_d c u v s t
+      go : (s t : Term) → symbol_of t ≡ None → [] ≡ parts_of_d c u v s t
       go (var y) t e = refl
       go (app f ss) (var x) e = refl
-      go (app f ss) (app g ts) e = let z : ◌≡◌ {A = ℕ} 0 1 = cc in absurd (omega arith)
+      go (app f ss) (app g ts) e = absurd (none-some _ (sym e))
 
   pub d_same :
       {f g : ℕ} → s ≡ app f (arguments s) → t ≡ app g (arguments t) → f ≡ g →

@@ -3,23 +3,27 @@
 use Prim.Native.Nat.{ℕ, suc, ◌+◌, ◌-◌, ◌*◌, ◌/◌, ◌%◌, ◌≤◌, ◌<◌}
 use mathlib.Core.List.{List, [], ◌∷◌, flat_map, append-nil}
 use mathlib.Core.Option.{some}
-use mathlib.Core.Path.{◌≡◌, sym, ap, ap₂, ◌∙◌}
+use mathlib.Core.Path.{◌≡◌, sym, ap, ap₂, subst, ◌∙◌}
 use native.Mathlib.Nat.{div-add-mod', div-lt_iff_lt-mul, mod-lt}
 use native.Mathlib.Omega.{arith}
 use lib.ListN.{length, get_or, get_elem?}
 use Rattle.term.specs.Term.{Term, size, count}
 use Rattle.term.specs.Root.{arguments}
 use Rattle.book.specs.Book.{Rule}
-use Rattle.clauses.specs.Cnf.{is}
+use Rattle.clauses.specs.Cnf.{is, Clause}
 use Rattle.clauses.specs.Blocks.{subterms, CAt, rule_blocks}
 use Rattle.clauses.specs.File.{clause_bytes}
 use Rattle.rule_blocks.specs.Nodes.{setting_of, nodes_block, NodeAt, Nodes}
 use Rattle.rule_blocks.specs.Rules.{SmallSide, RuleStands}
+use Rattle.rule_blocks.specs.TwoNodes.{Stand, AreAt, numbered_nodes}
 use Rattle.rule_blocks.specs.declared.PlacedRule.{PlacedRule}
+use Rattle.rule_blocks.specs.declared.nodes.TwoNodes.{TwoNodes}
+use Rattle.term.specs.declared.Terms.{Terms}
 use Rattle.clauses.proofs.Inside.{size_positive}
 use Rattle.clauses.proofs.BlockNumbers.{rule_blocks_count, rule_root_at, rule_nodes_at}
 use Rattle.clauses.proofs.Elements.{element_member, element_is}
 use Rattle.rule_blocks.proofs.SubtermsAt.{SubtermAt, subterm_at_lem}
+use Rattle.rule_blocks.proofs.Walk.{nodes_are}
 
 -- A node of a side.
 record SideNode (bytes arities : List ℕ) (start node : ℕ) (side : Term) : Type 0 where
@@ -108,3 +112,20 @@ module _ {bytes arities : List ℕ} {c : PlacedRule} {rule : Rule} (stands : Rul
   pub blocks_counted : length (rule_blocks (setting_of c) rule) ≡ c.height * c.width + 1
   blocks_counted =
       rule_blocks_count (setting_of c) rule ∙ omega (arith, ap₂ ◌*◌ stands.left.nodes stands.right.nodes)
+
+-- The same of the nodes as the code holds them.
+module _
+    (terms : Terms) {c : PlacedRule} {rule : Rule} (stands : RuleStands terms.bytes.now terms.arities c rule) (number : ℕ) (some : number ≡ 0 → ⊥)
+    (within : number ≤ c.height * c.width) {two : TwoNodes} (are : two ≡ numbered_nodes terms c number) where
+  pub numbered_stand : Stand two
+  unfolding numbered_nodes
+  numbered_stand = rw are (numbered_pair stands number some within).nodes
+
+  -- What holds of their block, whichever subterms stand there, holds of the rule's block of this number.
+  pub numbered_holds :
+      (P : List Clause → Type 0) → ((s t : Term) → AreAt two s t → P (nodes_block (setting_of two.placed) two.u two.v s t)) →
+      P (get_or (rule_blocks (setting_of c) rule) number [])
+  unfolding numbered_nodes
+  numbered_holds P =
+      rw are (λ (holds : (s t : Term) → AreAt (numbered_nodes terms c number) s t → P (nodes_block (setting_of c) ((number - 1) / c.width) ((number - 1) % c.width) s t)).
+      subst P (numbered_block_lem stands number some within) (holds _ _ (nodes_are (numbered_pair stands number some within).nodes)))

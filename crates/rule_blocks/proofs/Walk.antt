@@ -2,16 +2,24 @@
 -- it behind its side's start, and the next subterm's node is as many nodes further as this one has. Assumes nothing.
 use Prim.Native.Nat.{ℕ, ◌+◌, ◌-◌, ◌*◌, ◌≤◌, ◌<◌}
 use mathlib.Core.List.{List, [], ◌∷◌, ◌++◌, map, append_assoc, append-nil}
-use mathlib.Core.Path.{◌≡◌, refl, sym, ap, subst, ◌∙◌}
+use mathlib.Core.Path.{◌≡◌, refl, sym, ap, subst, subst₂, ◌∙◌}
 use native.Mathlib.Omega.{arith}
 use Rattle.term.specs.Term.{Term, Args, cons, size, sizes}
 use Rattle.term.specs.At.{At, ArgsAt, Standing}
 use Rattle.term.proofs.At.{at_end_lem, args_first, args_none, args_unique, FirstAt}
 use Rattle.clauses.specs.Blocks.{Numbered, numbered_args}
-use Rattle.rule_blocks.specs.Nodes.{NodeAt, NodesAt}
+use Rattle.rule_blocks.specs.Nodes.{NodeAt, NodesAt, Nodes, NodesAre}
+use Rattle.rule_blocks.specs.declared.PlacedRule.{PlacedRule}
 
 pub node_stands : {bytes arities : List ℕ} {start node : ℕ} → NodeAt bytes arities start node → Standing bytes arities (start + 2 * node)
 node_stands here = record { term = here.term; behind = here.behind; stands = here.stands }
+
+-- The subterms at two nodes.
+pub nodes_are :
+    {bytes arities : List ℕ} {c : PlacedRule} {u v : ℕ} (here : Nodes bytes arities c u v) →
+    NodesAre bytes arities c u v here.left.term here.right.term
+nodes_are here =
+    record { behind_left = here.left.behind; behind_right = here.right.behind; left = here.left.stands; right = here.right.stands }
 
 -- The first of several subterms, and the others behind it.
 pub record FirstNode (bytes arities : List ℕ) (start node many : ℕ) (ts : Args) (e : ℕ) : Type 0 where
@@ -42,10 +50,10 @@ first_node {bytes} {arities} start node many {ts} {e} stand h = go (args_first s
         }
 
 -- The same of nodes that are known to stand within their side.
-module _ {bytes arities : List ℕ} {start node many : ℕ} (here : NodesAt bytes arities start node many) (some : 0 < many) where
-  pub nodes_first : NodeAt bytes arities start node
+module _ {bytes arities : List ℕ} {start node many : ℕ} (here : NodesAt bytes arities start node many) where
+  pub nodes_first : 0 < many → NodeAt bytes arities start node
   unfolding size
-  nodes_first =
+  nodes_first some =
       let parts = first_node start node many here.stand some in
       record {
         term = parts.first;
@@ -55,15 +63,18 @@ module _ {bytes arities : List ℕ} {start node many : ℕ} (here : NodesAt byte
       }
 
   pub nodes_others :
-      {after : ℕ} → ((t : Term) (e : ℕ) → At bytes arities (start + 2 * node) t e → after ≡ node + size t) → NodesAt bytes arities start after (many - 1)
+      {after many' : ℕ} → many' + 1 ≡ many → ((t : Term) (e : ℕ) → At bytes arities (start + 2 * node) t e → after ≡ node + size t) →
+      NodesAt bytes arities start after many'
   unfolding size
-  nodes_others {after} behind =
-      let parts = first_node start node many here.stand some in
+  nodes_others {after} {many'} one behind =
+      let parts = first_node start node many here.stand (omega arith) in
       let next : node + size parts.first ≡ after = sym (behind parts.first parts.behind parts.first_stands) in
+      let fewer : many - 1 ≡ many' = omega arith in
       record {
         terms = parts.others;
         behind = here.behind;
-        stand = subst (λ (n : ℕ). ArgsAt bytes arities (many - 1) (start + 2 * n) parts.others here.behind) next parts.others_stand;
+        stand =
+            subst₂ (λ (k n : ℕ). ArgsAt bytes arities k (start + 2 * n) parts.others here.behind) fewer next parts.others_stand;
         within = omega (arith, here.within, ap sizes parts.parted);
       }
 
@@ -107,26 +118,30 @@ module _ (bytes arities : List ℕ) (start : ℕ) (noted : ℕ → ℕ) (node₀
             }
 
     pub walk_goes_on :
-        0 < many → (node' : ℕ) → ((t : Term) (e : ℕ) → At bytes arities (start + 2 * node) t e → node' ≡ node + size t) →
-        (parts' : List ℕ) → parts' ≡ parts ++ (noted node ∷ []) → Walked bytes arities start noted node₀ many₀ parts₀ node' (many - 1) parts'
+        {node' many' : ℕ} {parts' : List ℕ} → many' + 1 ≡ many →
+        ((t : Term) (e : ℕ) → At bytes arities (start + 2 * node) t e → node' ≡ node + size t) → parts' ≡ parts ++ (noted node ∷ []) →
+        Walked bytes arities start noted node₀ many₀ parts₀ node' many' parts'
     unfolding size numbered_args
-    walk_goes_on h node' behind parts' e = go (first_node start node many walk.left_stand h)
+    walk_goes_on {node'} {many'} {parts'} one behind e = go (first_node start node many walk.left_stand (omega arith))
       where
-        go : FirstNode bytes arities start node many walk.left walk.behind → Walked bytes arities start noted node₀ many₀ parts₀ node' (many - 1) parts'
-        go one =
-            let next : node + size one.first ≡ node' = sym (behind one.first one.behind one.first_stands) in
+        fewer : many - 1 ≡ many'
+        fewer = omega (arith, one)
+
+        go : FirstNode bytes arities start node many walk.left walk.behind → Walked bytes arities start noted node₀ many₀ parts₀ node' many' parts'
+        go next_one =
+            let next : node + size next_one.first ≡ node' = sym (behind next_one.first next_one.behind next_one.first_stands) in
             record {
               all = walk.all;
-              left = one.others;
+              left = next_one.others;
               behind = walk.behind;
               all_stand = walk.all_stand;
-              left_stand = subst (λ (n : ℕ). ArgsAt bytes arities (many - 1) (start + 2 * n) one.others walk.behind) next one.others_stand;
-              within = omega (arith, walk.within, ap sizes one.parted);
+              left_stand = subst₂ (λ (k n : ℕ). ArgsAt bytes arities k (start + 2 * n) next_one.others walk.behind) fewer next next_one.others_stand;
+              within = omega (arith, walk.within, ap sizes next_one.parted);
               so =
-                  ap (λ (l : List ℕ). l ++ map (λ (t : Numbered). noted t.node) (numbered_args node' one.others)) e
-                  ∙ append_assoc parts (noted node ∷ []) (map (λ (t : Numbered). noted t.node) (numbered_args node' one.others))
-                  ∙ ap (λ (n : ℕ). parts ++ (noted node ∷ map (λ (t : Numbered). noted t.node) (numbered_args n one.others))) (sym next)
-                  ∙ ap (λ (ts : Args). parts ++ map (λ (t : Numbered). noted t.node) (numbered_args node ts)) (sym one.parted)
+                  ap (λ (l : List ℕ). l ++ map (λ (t : Numbered). noted t.node) (numbered_args node' next_one.others)) e
+                  ∙ append_assoc parts (noted node ∷ []) (map (λ (t : Numbered). noted t.node) (numbered_args node' next_one.others))
+                  ∙ ap (λ (n : ℕ). parts ++ (noted node ∷ map (λ (t : Numbered). noted t.node) (numbered_args n next_one.others))) (sym next)
+                  ∙ ap (λ (ts : Args). parts ++ map (λ (t : Numbered). noted t.node) (numbered_args node ts)) (sym next_one.parted)
                   ∙ walk.so;
             }
 

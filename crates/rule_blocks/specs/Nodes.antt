@@ -1,22 +1,15 @@
 -- Nodes of a rule's sides as places in the book's bytes: node u of a side that starts at a stands at a + 2u.
 use Rattle.std.specs.Prelude.{ℕ, ◌+◌, ◌*◌, ◌≤◌, List}
-use Rattle.term.specs.Term.{Term, Args, var, app, size, sizes, count}
+use Rattle.term.specs.Term.{Term, Args, size, sizes, count}
 use Rattle.term.specs.Root.{arguments}
 use Rattle.term.specs.At.{At, ArgsAt}
 use Rattle.clauses.specs.Cnf.{Clause}
 use Rattle.clauses.specs.Blocks.{Setting, node_block}
-use Rattle.rule_blocks.specs.declared.nodes.Root.{Root}
-use Rattle.rule_blocks.specs.declared.nodes.Root.TheVariants.{Variable, Symbol}
 use Rattle.rule_blocks.specs.declared.PlacedRule.{PlacedRule}
 
 -- What the blocks of a rule share, without the places.
 unfoldable pub setting_of : PlacedRule → Setting
 setting_of c = record { n = c.symbols; k = c.bits; base = c.base; width = c.width }
-
--- The root of a term, as the code tells it.
-unfoldable pub root_of : Term → Root
-root_of (var x) = Variable
-root_of (app f ts) = Symbol f
 
 -- "at most 16 symbols", k then at most 4, "7,424 variables" at most, "at most 10 nodes on a side".
 pub record WithinMaximum (c : PlacedRule) : Type 0 where
@@ -46,6 +39,13 @@ pub record Nodes (bytes arities : List ℕ) (c : PlacedRule) (u v : ℕ) : Type 
   pub right : NodeAt bytes arities c.right v
   pub few_left : count (arguments left.term) ≤ 6
   pub few_right : count (arguments right.term) ≤ 6
+
+-- The subterms s and t stand at the two nodes.
+pub record NodesAre (bytes arities : List ℕ) (c : PlacedRule) (u v : ℕ) (s t : Term) : Type 0 where
+  pub behind_left : ℕ
+  pub behind_right : ℕ
+  pub left : At bytes arities (c.left + 2 * u) s behind_left
+  pub right : At bytes arities (c.right + 2 * v) t behind_right
 
 -- The block of the subterms s at node u and t at node v.
 unfoldable pub nodes_block : Setting → (u v : ℕ) (s t : Term) → List Clause

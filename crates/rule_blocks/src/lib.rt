@@ -1,7 +1,6 @@
 // The blocks of a rule: (C of 0,0), and one for each node of its left side with each of its right.
 #![tactic(auto)]
 
-mod gathering;
 mod nodes;
 pub mod rules;
 

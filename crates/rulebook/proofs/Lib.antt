@@ -1,3 +1,2 @@
-pub mod RunTold
 pub mod BookTold
 pub mod Settled

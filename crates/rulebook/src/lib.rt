@@ -14,39 +14,32 @@ ghost use Rattle.running.specs.RunMeaning.{run_told};
 ghost use Rattle.steps.specs.Argument.{argument};
 ghost use Rattle.rulebook.specs.Replies.{verdict_reply, book_reply, written_reply, ran_reply, part_reply};
 
-use answer::Answered;
-use asking::ArgumentReply;
-use blocks::Written;
-use book::BookVerdict;
-use clearing::RanksVerdict;
 use counts::count_blocks;
 pub use replies::{BookReply, PartReply, RanReply, Verdict, WrittenReply};
-use replies::{outcome_number, refuse};
-use running::RunReply;
 
-// Reads a book.
+// Reads a book. Told by hand: its count asks for a book that was read, as no `From<Result<Book, Refusal>>` could.
+#[tactic(auto, unfolding(book::specs::Meaning::meaning, reply::specs::Replied::replied_as))]
 pub fn rulebook_read_book(book: &[u8]) -> BookReply
     ensures { result ≡ book_reply (read_book book.now) }
 {
-    let read = book::read_book(book);
-    let verdict = read.verdict;
-    if let BookVerdict::Refused(refusal) = verdict {
-        let why = refuse(refusal);
-        return BookReply {
-            refusal: why.refusal,
-            place: why.place,
-            symbols: 0,
-            rules: 0,
-            blocks: 0,
-        };
-    }
-    let places = read.book;
-    BookReply {
-        refusal: 0,
-        place: 0,
-        symbols: places.symbols as u64,
-        rules: places.rules as u64,
-        blocks: count_blocks(places) as u64,
+    match book::read_book(book) {
+        Ok(book) => BookReply {
+            refusal: 0,
+            place: 0,
+            symbols: book.symbols as u64,
+            rules: book.rules as u64,
+            blocks: count_blocks(&book) as u64,
+        },
+        Err(refusal) => {
+            let Verdict { refusal, place } = refusal.into();
+            BookReply {
+                refusal,
+                place,
+                symbols: 0,
+                rules: 0,
+                blocks: 0,
+            }
+        }
     }
 }
 
@@ -54,14 +47,7 @@ pub fn rulebook_read_book(book: &[u8]) -> BookReply
 pub fn rulebook_check_ranks(book: &[u8], ranks: &[u8]) -> Verdict
     ensures { result ≡ verdict_reply (check_ranks book.now ranks.now) }
 {
-    let checked = clearing::check_ranks(book, ranks);
-    match checked {
-        RanksVerdict::Accepted => Verdict {
-            refusal: 0,
-            place: 0,
-        },
-        RanksVerdict::Refused(refusal) => refuse(refusal),
-    }
+    clearing::check_ranks(book, ranks).into()
 }
 
 // Writes one block of the clause file.
@@ -69,22 +55,7 @@ pub fn rulebook_write_block(book: &[u8], number: u64, out: &mut [u8]) -> Written
     ensures replies { result ≡ written_reply (length_of (block book.now number (length out.old))) }
     ensures lays { out.new ≡ laid (block book.now number (length out.old)) out.old }
 {
-    let written = blocks::write_block(book, number, out);
-    match written {
-        Written::Laid(length) => WrittenReply {
-            refusal: 0,
-            place: 0,
-            length: length as u64,
-        },
-        Written::Refused(refusal) => {
-            let why = refuse(refusal);
-            WrittenReply {
-                refusal: why.refusal,
-                place: why.place,
-                length: 0,
-            }
-        }
-    }
+    blocks::write_block(book, number, out).into()
 }
 
 // Reads a solver's answer and writes its ranks, if they make every rule decrease.
@@ -92,22 +63,7 @@ pub fn rulebook_ranks_from_answer(book: &[u8], answer: &[u8], out: &mut [u8]) ->
     ensures replies { result ≡ written_reply (length_of (ranks_from_answer book.now answer.now (length out.old))) }
     ensures lays { out.new ≡ laid (ranks_from_answer book.now answer.now (length out.old)) out.old }
 {
-    let answered = answer::ranks_from_answer(book, answer, out);
-    match answered {
-        Answered::Accepted(ranks) => WrittenReply {
-            refusal: 0,
-            place: 0,
-            length: ranks as u64,
-        },
-        Answered::Refused(refusal) => {
-            let why = refuse(refusal);
-            WrittenReply {
-                refusal: why.refusal,
-                place: why.place,
-                length: 0,
-            }
-        }
-    }
+    answer::ranks_from_answer(book, answer, out).into()
 }
 
 // Runs a record under a book that the ranks clear, and writes the term reached.
@@ -123,52 +79,12 @@ pub fn rulebook_run(
     ensures lays { out.new ≡ laid (ran_bytes (run book.now ranks.now «record».now budget
         (length out.old))) out.old }
 {
-    let ran = running::run(book, ranks, record, budget, out);
-    match ran {
-        RunReply::RanTo {
-            outcome,
-            steps,
-            length,
-        } => RanReply {
-            refusal: 0,
-            place: 0,
-            outcome: outcome_number(outcome),
-            steps,
-            length: length as u64,
-        },
-        RunReply::Refused(refusal) => {
-            let why = refuse(refusal);
-            RanReply {
-                refusal: why.refusal,
-                place: why.place,
-                outcome: 0,
-                steps: 0,
-                length: 0,
-            }
-        }
-    }
+    running::run(book, ranks, record, budget, out).into()
 }
 
 // Where argument `number`, from 0, of the record's root stands in the record.
 pub fn rulebook_argument(book: &[u8], record: &[u8], number: u64) -> PartReply
     ensures { result ≡ part_reply (argument book.now «record».now number) }
 {
-    let found = asking::argument_reply(book, record, number);
-    match found {
-        ArgumentReply::Found { start, length } => PartReply {
-            refusal: 0,
-            place: 0,
-            start: start as u64,
-            length: length as u64,
-        },
-        ArgumentReply::Refused(refusal) => {
-            let why = refuse(refusal);
-            PartReply {
-                refusal: why.refusal,
-                place: why.place,
-                start: 0,
-                length: 0,
-            }
-        }
-    }
+    asking::argument_reply(book, record, number).into()
 }

@@ -20,119 +20,103 @@
 mod parts;
 mod replies;
 
+use replies::Request;
 use std::io;
 use std::io::{IsTerminal, Read};
-use words::{Number, grown};
+use std::ops::ControlFlow;
+use words::grown;
 
-// The next byte, 0 at the end of the input.
-fn byte(input: &mut impl Read) -> io::Result<u8> {
-    let mut one = [0u8; 1];
-    let got = parts::read_full(input, &mut one)?;
-    Ok(if got == 1 { one[0] } else { 0 })
+// The next byte; none at the end of the input.
+fn next_byte(input: &mut impl Read) -> io::Result<Option<u8>> {
+    input.by_ref().bytes().next().transpose()
 }
 
 // A number of the header below 2^64: the digits up to the next byte that is none; that byte is passed over too.
-fn read_number(input: &mut impl Read) -> io::Result<Number> {
-    let mut value: usize = 0;
-    let mut digits: usize = 0;
-    while digits < 21 {
-        let next = byte(input)?;
-        if next < b'0' || b'9' < next {
-            if digits == 0 {
-                return Ok(Number::Missing);
-            }
-            return Ok(Number::Is(value));
-        }
-        let Number::Is(more) = grown(value, next, usize::MAX) else {
-            return Ok(Number::Missing);
+fn read_number(input: &mut impl Read) -> io::Result<Option<usize>> {
+    let mut value = None;
+    for _ in 0..21 {
+        let Some(digit @ b'0'..=b'9') = next_byte(input)? else {
+            return Ok(value);
         };
-        value = more;
-        digits += 1;
+        let Some(more) = grown(value.unwrap_or(0), digit, usize::MAX) else {
+            return Ok(None);
+        };
+        value = Some(more);
     }
-    Ok(Number::Missing)
+    Ok(None)
 }
 
-// What is no request ends the input.
-fn not_a_request(output: &impl Print) -> io::Result<bool> {
-    output.write_all(b"not a request\n")?;
-    Ok(false)
-}
-
-// Writes the reply to a call on these parts. The longest, of a full book's rules, has fewer than 8,192 bytes.
+// Writes the reply to a request. The longest, of a full book's rules, has fewer than 8,192 bytes.
 fn answer(
     output: &impl Print,
     screen: &(impl Print + IsTerminal),
-    call: u8,
-    number: usize,
-    book: &[u8],
-    text: &[u8],
-    record: &[u8],
+    request: &Request,
 ) -> io::Result<()> {
     let mut out = [0u8; 8192];
-    let n = replies::lay(screen, call, number as u64, book, text, record, &mut out);
+    let n = request.lay_reply(screen, &mut out);
     output.write_all(&out[..n])
 }
 
-// Answers the request whose parts have these lengths; whether all of them came. Of each part only the first bytes are kept: one byte more
-// than any book, answer or record that is taken has. What lies behind them changes no reply. A book of more than 1,345 bytes is refused at
-// a record that stands within its first 1,346 (clause_file's proofs/LongestBook). An answer of more than 65,536 bytes is refused by 12,
+// Answers the request whose parts have these lengths; it goes on if all of them came. Of each part only the first bytes are kept: one byte
+// more than any book, answer or record that is taken has. What lies behind them changes no reply. A book of more than 1,345 bytes is refused
+// at a record that stands within its first 1,346 (clause_file's proofs/LongestBook). An answer of more than 65,536 bytes is refused by 12,
 // ranks as many as that by 7, a record of more than 513 by 11, whatever the bytes are.
 fn answer_to(
     input: &mut impl Read,
     output: &impl Print,
     screen: &(impl Print + IsTerminal),
     call: u8,
-    number: usize,
-    book: usize,
-    text: usize,
-    record: usize,
-) -> io::Result<bool> {
+    number: u64,
+    lengths: [usize; 3],
+) -> io::Result<ControlFlow<()>> {
     let mut book_space = [0u8; 1346];
     let mut text_space = [0u8; 65537];
     let mut record_space = [0u8; 514];
-    let b = parts::read_part(input, book, &mut book_space)?;
-    let t = parts::read_part(input, text, &mut text_space)?;
-    let r = parts::read_part(input, record, &mut record_space)?;
-    if !b.whole || !t.whole || !r.whole {
+    let book = parts::read_part(input, lengths[0], &mut book_space)?;
+    let text = parts::read_part(input, lengths[1], &mut text_space)?;
+    let record = parts::read_part(input, lengths[2], &mut record_space)?;
+    let (Some(book), Some(text), Some(record)) = (book, text, record) else {
         output.write_all(b"cut off\n")?;
-        return Ok(false);
-    }
-    answer(
-        output,
-        screen,
+        return Ok(ControlFlow::Break(()));
+    };
+    let request = Request {
         call,
         number,
-        &book_space[..b.laid],
-        &text_space[..t.laid],
-        &record_space[..r.laid],
-    )?;
-    Ok(true)
+        book,
+        text,
+        record,
+    };
+    answer(output, screen, &request)?;
+    Ok(ControlFlow::Continue(()))
 }
 
-// One request; whether the input goes on behind it.
-fn request(
+// One request. The input ends behind what is no request, and a byte 0 in place of a call is such an end.
+fn answer_next(
     input: &mut impl Read,
     output: &impl Print,
     screen: &(impl Print + IsTerminal),
-) -> io::Result<bool> {
-    let call = byte(input)?;
-    if call == 0 {
-        return Ok(false);
+) -> io::Result<ControlFlow<()>> {
+    let Some(call @ 1..) = next_byte(input)? else {
+        return Ok(ControlFlow::Break(()));
+    };
+    next_byte(input)?;
+    let mut numbers = [0; 4];
+    for number in &mut numbers {
+        let Some(given) = read_number(input)? else {
+            output.write_all(b"not a request\n")?;
+            return Ok(ControlFlow::Break(()));
+        };
+        *number = given;
     }
-    byte(input)?;
-    let Number::Is(number) = read_number(input)? else {
-        return not_a_request(output);
-    };
-    let Number::Is(book) = read_number(input)? else {
-        return not_a_request(output);
-    };
-    let Number::Is(text) = read_number(input)? else {
-        return not_a_request(output);
-    };
-    let Number::Is(record) = read_number(input)? else {
-        return not_a_request(output);
-    };
-    answer_to(input, output, screen, call, number, book, text, record)
+    let [number, book, text, record] = numbers;
+    answer_to(
+        input,
+        output,
+        screen,
+        call,
+        number as u64,
+        [book, text, record],
+    )
 }
 
 // A proved loop has to end, and nothing says that the input does: the turns are counted up to a number that no run uses up. Nothing is kept
@@ -142,7 +126,7 @@ fn main(rt: HostRuntime) -> io::Result<()> {
     let output = rt.stdout();
     let screen = rt.stderr();
     for _ in 0..u64::MAX {
-        if !request(&mut input, &output, &screen)? {
+        if answer_next(&mut input, &output, &screen)?.is_break() {
             break;
         }
     }

@@ -16,9 +16,9 @@ use Rattle.run_lines.proofs.write_part.Kinds as write_part_kinds
 use Rattle.run_lines.proofs.write_part.Reads as write_part
 
 pub write_ran_settled :
-    (κs : Lfts 2) (a : Dens κs write_ran_kinds.ps) (r r' : ℕ) (e e' : AtExit (ended_of 2 write_ran_kinds.ps write_ran_kinds.r) κs) →
-    (t : Term) (end : ℕ) → At a.1.0.now a.1.1.0 0 t end →
-    write_ran.Post κs a r e → write_ran.Post κs a r' e' → (r ≡ r') × (e.1.1.1.0.now ≡ e'.1.1.1.0.now)
+    (κs : Lfts 3) (a : Dens κs write_ran_kinds.ps) (r r' : ℕ) (e e' : AtExit (ended_of 3 write_ran_kinds.ps write_ran_kinds.r) κs) →
+    (t : Term) (end : ℕ) → At a.1.0.now.bytes.now a.1.0.now.arities 0 t end →
+    write_ran.Post κs a r e → write_ran.Post κs a r' e' → (r ≡ r') × (e.1.1.0.now ≡ e'.1.1.0.now)
 write_ran_settled κs a r r' e e' t end stands p p' = lays_settled (p.told t end stands) (p'.told t end stands)
 
 pub write_step_settled :
@@ -27,7 +27,7 @@ pub write_step_settled :
 write_step_settled κs a r r' e e' p p' = lays_settled p p'
 
 pub write_part_settled :
-    (κs : Lfts 2) (a : Dens κs write_part_kinds.ps) (r r' : ℕ) (e e' : AtExit (ended_of 2 write_part_kinds.ps write_part_kinds.r) κs) →
-    (t : Term) (end : ℕ) → At a.1.0.now a.1.1.0 0 t end →
-    write_part.Post κs a r e → write_part.Post κs a r' e' → (r ≡ r') × (e.1.1.1.0.now ≡ e'.1.1.1.0.now)
+    (κs : Lfts 3) (a : Dens κs write_part_kinds.ps) (r r' : ℕ) (e e' : AtExit (ended_of 3 write_part_kinds.ps write_part_kinds.r) κs) →
+    (t : Term) (end : ℕ) → At a.1.0.now.bytes.now a.1.0.now.arities 0 t end →
+    write_part.Post κs a r e → write_part.Post κs a r' e' → (r ≡ r') × (e.1.1.0.now ≡ e'.1.1.0.now)
 write_part_settled κs a r r' e e' t end stands p p' = lays_settled (p.told t end stands) (p'.told t end stands)

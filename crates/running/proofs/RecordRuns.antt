@@ -1,14 +1,15 @@
 -- A record is copied into a working buffer and stands there, and the term that a run reached is laid into the lent buffer with its end
 -- record. Assumes nothing.
 use Prim.Native.Nat.{ℕ, suc, ◌+◌, ◌-◌, ◌<◌, ◌≤◌}
-use mathlib.Core.Bool.{Bool, true, false}
 use mathlib.Core.List.{List, [], ◌∷◌, ◌++◌, append_assoc}
 use mathlib.Core.Path.{◌≡◌, sym, ap, ◌∙◌}
 use native.Mathlib.Numerals.{add-one}
 use native.Mathlib.Omega.{arith}
 use lib.ListN.{length, get_or, take, drop, set, length-append}
 use lib.Seq.{drop-cons, set_at, take-take}
+use Rattle.std.specs.Prelude.{Ok}
 use Rattle.reply.specs.Reply.{Reply, given, ◌>>=◌}
+use Rattle.reply.specs.Replied.{replied_as}
 use Rattle.reply.specs.Lent.{overlaid, laid}
 use Rattle.term.specs.Term.{Term}
 use Rattle.term.specs.Prefix.{prefix}
@@ -20,20 +21,17 @@ use Rattle.term.proofs.Copied.{copied_whole}
 use Rattle.book.specs.Book.{Rule}
 use Rattle.record.specs.Record.{record_bytes}
 use Rattle.steps.specs.Run.{Ran, run_from, ran_bytes}
-use Rattle.running.specs.Turns.{held, TermIn, RunTo}
 use Rattle.stepping.specs.Stepped.{outcome_of}
-use Rattle.running.specs.RunMeaning.{Told, told_of, run_told, run_meaning, RunsTo}
-use Rattle.running.specs.declared.Reached.{Reached}
-use Rattle.running.specs.declared.RunReply.TheVariants.{RanTo}
+use Rattle.running.specs.RunMeaning.{Told, told_of, told_in_code, run_told, run_meaning, RunsTo}
+use Rattle.stepping.specs.declared.Outcome.{Outcome}
 use Rattle.steps.proofs.Questions.{at_beginning}
 use Rattle.building.proofs.LaidDown.{front_copied}
 
 -- The record's term in a working buffer.
 pub term_copied :
-    {bytes arities : List ℕ} {t : Term} {n : ℕ} (buffer other : List ℕ) → At bytes arities 0 t n → n ≤ length buffer →
-    TermIn arities true (overlaid (copied bytes 0 n (length buffer)) buffer) other n t
-unfolding held
-term_copied {bytes} {n = n} buffer other h p =
+    {bytes arities : List ℕ} {t : Term} {n : ℕ} (buffer : List ℕ) → At bytes arities 0 t n → n ≤ length buffer →
+    At (take n (overlaid (copied bytes 0 n (length buffer)) buffer)) arities 0 t n
+term_copied {bytes} {n = n} buffer h p =
     at_beginning (overlaid (copied bytes 0 n (length buffer)) buffer) h (front_copied bytes buffer n (at_within h) p)
 
 -- The end record behind a text.
@@ -70,34 +68,17 @@ module _ {arities : List ℕ} {t : Term} (buffer out : List ℕ) (n : ℕ) (h : 
       ∙ end_laid (prefix t) out n (omega (arith, prefix_length t, at_end_lem h)) p
 
 -- So the reply and the lent buffer are the run's.
-module _
-    {arities : List ℕ} {rules : List Rule} {t : Term} {budget : ℕ} {one other : List ℕ} {reached : Reached} (to : RunTo arities rules t budget one other reached)
-    (out : List ℕ) (p : 513 ≤ length out) where
-  replied : run_meaning (RanTo reached.outcome reached.steps (reached.length + 1)) ≡ given (told_of (run_from rules budget 0 t))
-  unfolding run_meaning told_of
-  replied =
-      ap {B = Reply Told} (λ (n : ℕ). given (record { outcome = outcome_of reached.outcome; steps = reached.steps; length = n }))
-      (sym (as_many (held reached.in_one one other) out reached.length to.stands (omega (arith, to.small))))
-      ∙ ap {B = Reply Told} (λ (ran : Ran). given (told_of ran)) (sym to.run)
-
-  written :
-      set (overlaid (copied (held reached.in_one one other) 0 reached.length (length out)) out) reached.length 5 ≡
-      laid (given (record_bytes (run_from rules budget 0 t).reached)) out
-  written =
-      term_laid (held reached.in_one one other) out reached.length to.stands (omega (arith, to.small))
-      ∙ ap (λ (ran : Ran). laid (given (record_bytes ran.reached)) out) (sym to.run)
-
-  pub record_run_in :
-      (after : List ℕ) → after ≡ overlaid (copied (held reached.in_one one other) 0 reached.length (length out)) out →
-      RunsTo (given (run_from rules budget 0 t)) (RanTo reached.outcome reached.steps (reached.length + 1)) out (set after reached.length 5)
-  unfolding run_told ran_bytes ◌>>=◌
-  record_run_in after is = record { replied = replied; written = ap (λ (l : List ℕ). set l reached.length 5) is ∙ written }
-
--- Which buffer it was copied from.
-pub from_one : {in_one : Bool} (one other : List ℕ) → in_one ≡ true → one ≡ held in_one one other
-unfolding held
-from_one one other e = ap (λ (b : Bool). held b one other) (sym e)
-
-pub from_other : {in_one : Bool} (one other : List ℕ) → in_one ≡ false → other ≡ held in_one one other
-unfolding held
-from_other one other e = ap (λ (b : Bool). held b one other) (sym e)
+pub record_run_in :
+    {arities : List ℕ} (rules : List Rule) (t : Term) {reached : Term} (budget : ℕ) {steps n : ℕ} {outcome : Outcome} (buffer out : List ℕ) →
+    At (take n buffer) arities 0 reached n → n < length out →
+    run_from rules budget 0 t ≡ record { outcome = outcome_of outcome; steps = steps; reached = reached } →
+    RunsTo (given (run_from rules budget 0 t)) (Ok (record { outcome = outcome; steps = steps; length = n + 1 })) out
+    (set (overlaid (copied buffer 0 n (length out)) out) n 5)
+unfolding run_meaning replied_as told_in_code run_told told_of ran_bytes ◌>>=◌
+record_run_in rules t budget {steps = steps} {n = n} {outcome = outcome} buffer out h p run =
+    record {
+      replied =
+          ap {B = Reply Told} (λ (n : ℕ). given (record { outcome = outcome_of outcome; steps = steps; length = n })) (sym (as_many buffer out n h p))
+          ∙ ap {B = Reply Told} (λ (ran : Ran). given (told_of ran)) (sym run);
+      written = term_laid buffer out n h p ∙ ap (λ (ran : Ran). laid (given (record_bytes ran.reached)) out) (sym run);
+    }

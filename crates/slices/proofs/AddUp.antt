@@ -4,15 +4,17 @@ use Prim.Native.Nat.{ℕ, zero, suc, ◌+◌, ◌≤◌}
 use mathlib.Core.Bool.{Bool, true, false}
 use mathlib.Core.List.{List}
 use mathlib.Core.Option.{Option, none, some}
-use mathlib.Core.Path.{◌≡◌, refl, sym, ap, ap₂, subst, subst₂, ◌∙◌}
+use mathlib.Core.Path.{◌≡◌, refl, sym, ap, ap₂, subst, ◌∙◌}
 use native.Mathlib.Omega.{arith}
 use lib.Dec.{leb}
 use lib.ListN.{length, take, length-take}
 use lib.Seq.{take-append_seam}
+use Rattle.std.specs.Prelude.{Result, Ok, Err}
 use Rattle.reply.specs.Reply.{Attempt, Refusal, Reply, given, refused, unless, ◌>>◌, ◌>>=◌, ◌at◌}
 use Rattle.reply.specs.Refusals.{numbered}
 use Rattle.reply.specs.declared.Refusal.{Refusal as Named}
 use Rattle.reply.specs.Lent.{laid}
+use Rattle.reply.specs.Replied.{replied_as}
 use Rattle.reply.proofs.Given.{refused_not_given, given_not_refused}
 use Rattle.term.specs.Term.{Term, size}
 use Rattle.book.specs.Book.{Rule}
@@ -21,16 +23,15 @@ use Rattle.record.specs.Record.{record_bytes, read_record}
 use Rattle.order.specs.Clearing.{ranks_clear}
 use Rattle.steps.specs.Step.{step_of}
 use Rattle.steps.specs.Run.{Outcome, done, spent, too_large, Ran, run_from, ran_cleared, run, ran_bytes}
-use Rattle.running.specs.RunMeaning.{Told, told_of, run_told, run_meaning, RunsTo}
+use Rattle.running.specs.RunMeaning.{Told, told_of, told_in_code, run_told, run_meaning, RunsTo}
 use Rattle.stepping.specs.Stepped.{outcome_of}
-use Rattle.running.specs.declared.RunReply.{RunReply}
-use Rattle.running.specs.declared.RunReply.TheVariants.{RanTo, Refused}
+use Rattle.running.specs.declared.RanTo.{RanTo}
+use Rattle.stepping.specs.declared.Outcome.{Outcome as Ending}
 use Rattle.stepping.specs.declared.Outcome.TheVariants.{Done, Spent, TooLarge}
 use Rattle.steps.proofs.Run.{run_done, run_spent, run_too_large, run_goes_on, after, carried_on}
 use Rattle.steps.proofs.Accepted.{Accepted, accepted, with_more}
 use Rattle.steps.proofs.Accepted as runs_on
-use Rattle.slices.specs.Sliced.{OneRun, later_on, told_later, going_of}
-use Rattle.slices.specs.declared.Going.TheVariants.{On, Ended}
+use Rattle.slices.specs.Sliced.{OneRun, later_on, told_later}
 
 abbrev Bytes : Type 0
 Bytes = List ℕ
@@ -82,27 +83,30 @@ refused_alike bytes ranks record' a c room r =
     (bind_alike r (read_record b.arities record') _ _ (λ t.
     then_alike r (unless (leb 513 room) (9 at 0)) (given (run_from b.rules a 0 t)) (given (run_from b.rules c 0 t)) (λ h. absurd (given_not_refused _ r h)))))
 
--- A refusal says nothing of steps.
-pub refused_later :
-    (made : ℕ) (answer : RunReply) (why : Named) → answer ≡ Refused why → run_meaning answer ≡ told_later made (run_meaning answer)
-unfolding run_meaning told_later ◌>>=◌
-refused_later made answer why is = ap run_meaning is ∙ sym (ap (λ (a : RunReply). told_later made (run_meaning a)) is)
+-- A refusal says nothing of steps, and of what was made the steps before are told too.
+pub refused_later : (made : ℕ) (why : Named) → run_meaning (Err why) ≡ told_later made (run_meaning (Err why))
+unfolding run_meaning replied_as told_later ◌>>=◌
+refused_later made why = refl
 
--- A run that was given and goes no further was not spent.
-not_spent : (answer : RunReply) (ran : Ran) → going_of answer ≡ Ended → run_meaning answer ≡ given (told_of ran) → ran.outcome ≡ spent → ⊥
-unfolding run_meaning told_of outcome_of
-not_spent (RanTo Done steps size) ran ended e s =
-    let o : ◌≡◌ {A = Told} (record { outcome = done; steps = steps; length = size }) (told_of ran) = cc e in
-    let q : ◌≡◌ {A = Outcome} done spent = ap (λ (told : Told). told.outcome) o ∙ s in
-    let z : ◌≡◌ {A = ℕ} 0 1 = cc in
-    omega arith
-not_spent (RanTo Spent steps size) ran ended e s = let z : ◌≡◌ {A = ℕ} 0 1 = cc in omega arith
-not_spent (RanTo TooLarge steps size) ran ended e s =
-    let o : ◌≡◌ {A = Told} (record { outcome = too_large; steps = steps; length = size }) (told_of ran) = cc e in
-    let q : ◌≡◌ {A = Outcome} too_large spent = ap (λ (told : Told). told.outcome) o ∙ s in
-    let z : ◌≡◌ {A = ℕ} 0 1 = cc in
-    omega arith
-not_spent (Refused why) ran ended e s = refused_not_given (numbered why) (told_of ran) e
+pub made_later :
+    (made : ℕ) (ran : RanTo) →
+    run_meaning (Ok (record { outcome = ran.outcome; steps = made + ran.steps; length = ran.length })) ≡ told_later made (run_meaning (Ok ran))
+unfolding run_meaning replied_as told_later told_in_code ◌>>=◌
+made_later made ran = refl
+
+-- A run that was given and was not spent in the code's words was not spent.
+not_spent : (answer : RanTo) (ran : Ran) → (answer.outcome ≡ Spent → ⊥) → run_meaning (Ok answer) ≡ given (told_of ran) → ran.outcome ≡ spent → ⊥
+unfolding run_meaning replied_as told_in_code told_of outcome_of
+not_spent answer ran ended e s = go answer.outcome refl
+  where
+    same : outcome_of answer.outcome ≡ ran.outcome
+    same = let both : ◌≡◌ {A = Told} (record { outcome = outcome_of answer.outcome; steps = answer.steps; length = answer.length }) (told_of ran) = cc e in
+        ap (λ (told : Told). told.outcome) both
+
+    go : (o : Ending) → answer.outcome ≡ o → ⊥
+    go Done p = let z : ◌≡◌ {A = ℕ} 0 1 = cc (sym (ap outcome_of p) ∙ same ∙ s) in omega arith
+    go Spent p = ended p
+    go TooLarge p = let z : ◌≡◌ {A = ℕ} 0 1 = cc (sym (ap outcome_of p) ∙ same ∙ s) in omega arith
 
 -- What a call of the run leaves at the start of its buffer.
 run_holds :
@@ -113,7 +117,7 @@ run_holds before written ran e =
     ap (take (length (record_bytes ran.reached))) (written ∙ ap (λ (x : Reply Ran). laid (ran_bytes x) before) e)
     ∙ take-append_seam (record_bytes ran.reached) _
 
-pub one_run : {reply : Reply Ran} {answer : RunReply} {before after : Bytes} → RunsTo reply answer before after → OneRun reply answer after
+pub one_run : {reply : Reply Ran} {answer : Result RanTo Named} {before after : Bytes} → RunsTo reply answer before after → OneRun reply answer after
 one_run {before = before} runs = record { replied = runs.replied; holds = run_holds before runs.written }
 
 -- The same with so many steps made before.
@@ -133,7 +137,7 @@ later_holds made (given first) after holds ran e =
 later_holds made (refused r) after holds ran e = absurd (refused_not_given r ran e)
 
 pub later_run :
-    {reply : Reply Ran} {answer answer' : RunReply} {before after : Bytes} (made : ℕ) → RunsTo reply answer before after →
+    {reply : Reply Ran} {answer answer' : Result RanTo Named} {before after : Bytes} (made : ℕ) → RunsTo reply answer before after →
     run_meaning answer' ≡ told_later made (run_meaning answer) → OneRun (later_on made reply) answer' after
 later_run {reply} {before = before} {after = after} made runs later =
     record {
@@ -143,7 +147,7 @@ later_run {reply} {before = before} {after = after} made runs later =
 
 -- No answer tells of more steps than the budget.
 pub told_within :
-    (bytes ranks record' : Bytes) (budget room : ℕ) (answer : RunReply) (told : Told) → run_meaning answer ≡ run_told (run bytes ranks record' budget room) →
+    (bytes ranks record' : Bytes) (budget room : ℕ) (answer : Result RanTo Named) (told : Told) → run_meaning answer ≡ run_told (run bytes ranks record' budget room) →
     run_meaning answer ≡ given told → told.steps ≤ budget
 unfolding run_told told_of ◌>>=◌
 told_within bytes ranks record' budget room answer told replied is = go (run bytes ranks record' budget room) refl
@@ -179,17 +183,28 @@ module _ (bytes ranks record' : Bytes) (a b : ℕ) where
       go rules spent o = absurd (not o)
       go rules too_large o = rw (carried_on, o) (sym e)
 
-  same_run : (answer : RunReply) → going_of answer ≡ Ended → run_meaning answer ≡ run_told so_far → whole ≡ so_far
-  unfolding run_told ◌>>=◌
-  same_run answer ended replied = go so_far refl
+  -- A run that goes no further is the run with the whole budget, and so is a refused one.
+  ended_alike : (answer : RanTo) → (answer.outcome ≡ Spent → ⊥) → run_meaning (Ok answer) ≡ run_told so_far → whole ≡ so_far
+  unfolding run_told run_meaning replied_as ◌>>=◌
+  ended_alike answer ended replied = go so_far refl
     where
       go : (x : Reply Ran) → so_far ≡ x → whole ≡ so_far
       go (given ran) e = ended_same ran e (not_spent answer ran ended (replied ∙ ap run_told e))
+      go (refused r) e = absurd (given_not_refused (told_in_code answer) r (replied ∙ ap run_told e))
+
+  refused_so : (why : Named) → run_meaning (Err why) ≡ run_told so_far → whole ≡ so_far
+  unfolding run_told run_meaning replied_as ◌>>=◌
+  refused_so why replied = go so_far refl
+    where
+      go : (x : Reply Ran) → so_far ≡ x → whole ≡ so_far
+      go (given ran) e = absurd (refused_not_given (numbered why) (told_of ran) (replied ∙ ap run_told e))
       go (refused r) e = refused_alike bytes ranks record' a (a + b) 513 r e ∙ sym e
 
-  -- A run that goes no further is the run with the whole budget.
-  pub ended_run : (answer : RunReply) (out : Bytes) → going_of answer ≡ Ended → OneRun so_far answer out → OneRun whole answer out
-  ended_run answer out ended one = subst (λ (x : Reply Ran). OneRun x answer out) (sym (same_run answer ended one.replied)) one
+  pub ended_run : (answer : RanTo) (out : Bytes) → (answer.outcome ≡ Spent → ⊥) → OneRun so_far (Ok answer) out → OneRun whole (Ok answer) out
+  ended_run answer out ended one = subst (λ (x : Reply Ran). OneRun x (Ok answer) out) (sym (ended_alike answer ended one.replied)) one
+
+  pub refused_run : (why : Named) (out : Bytes) → OneRun so_far (Err why) out → OneRun whole (Err why) out
+  refused_run why out one = subst (λ (x : Reply Ran). OneRun x (Err why) out) (sym (refused_so why one.replied)) one
 
   -- What the reply of a spent run tells: the run, and its record at the start of the buffer.
   pub record SpentRun (steps size : ℕ) (out : Bytes) : Type 0 where
@@ -200,35 +215,24 @@ module _ (bytes ranks record' : Bytes) (a b : ℕ) where
     pub long : length (record_bytes ran.reached) ≡ size
     pub stands : take size out ≡ record_bytes ran.reached
 
-  told_spent :
-      (steps size : ℕ) (out : Bytes) → run_meaning (RanTo Spent steps size) ≡ run_told so_far →
-      ((ran : Ran) → so_far ≡ given ran → take (length (record_bytes ran.reached)) out ≡ record_bytes ran.reached) → SpentRun steps size out
-  unfolding run_meaning run_told told_of outcome_of ◌>>=◌
-  told_spent steps size out replied holds = go so_far refl
+  pub spent_run : (answer : RanTo) (out : Bytes) → answer.outcome ≡ Spent → OneRun so_far (Ok answer) out → SpentRun answer.steps answer.length out
+  unfolding run_meaning replied_as run_told told_of told_in_code outcome_of ◌>>=◌
+  spent_run answer out is_spent one = go so_far refl
     where
-      go : (x : Reply Ran) → so_far ≡ x → SpentRun steps size out
+      go : (x : Reply Ran) → so_far ≡ x → SpentRun answer.steps answer.length out
       go (given ran) e =
-          let same : ◌≡◌ {A = Told} (record { outcome = spent; steps = steps; length = size }) (told_of ran) = cc (replied ∙ ap run_told e) in
-          let long : length (record_bytes ran.reached) ≡ size = sym (ap (λ (told : Told). told.length) same) in
+          let same : ◌≡◌ {A = Told} (record { outcome = outcome_of answer.outcome; steps = answer.steps; length = answer.length }) (told_of ran) =
+          cc (one.replied ∙ ap run_told e) in
+          let long : length (record_bytes ran.reached) ≡ answer.length = sym (ap (λ (told : Told). told.length) same) in
           record {
             ran = ran;
             is = e;
-            is_spent = sym (ap (λ (told : Told). told.outcome) same);
+            is_spent = sym (ap (λ (told : Told). told.outcome) same) ∙ ap outcome_of is_spent;
             made = sym (ap (λ (told : Told). told.steps) same);
             long = long;
-            stands = ap (λ (n : ℕ). take n out) (sym long) ∙ holds ran e;
+            stands = ap (λ (n : ℕ). take n out) (sym long) ∙ one.holds ran e;
           }
-      go (refused r) e =
-          absurd (given_not_refused (record { outcome = spent; steps = steps; length = size }) r (replied ∙ ap run_told e))
-
-  pub spent_run : (answer : RunReply) (steps size : ℕ) (out : Bytes) → going_of answer ≡ On steps size → OneRun so_far answer out → SpentRun steps size out
-  spent_run (RanTo Done s l) steps size out going one = let z : ◌≡◌ {A = ℕ} 0 1 = cc in absurd (omega arith)
-  spent_run (RanTo Spent s l) steps size out going one =
-      let s≡ : s ≡ steps = cc going in
-      let l≡ : l ≡ size = cc going in
-      subst₂ (λ (n m : ℕ). SpentRun n m out) s≡ l≡ (told_spent s l out one.replied one.holds)
-  spent_run (RanTo TooLarge s l) steps size out going one = let z : ◌≡◌ {A = ℕ} 0 1 = cc in absurd (omega arith)
-  spent_run (Refused why) steps size out going one = let z : ◌≡◌ {A = ℕ} 0 1 = cc in absurd (omega arith)
+      go (refused r) e = absurd (given_not_refused (told_in_code answer) r (one.replied ∙ ap run_told e))
 
   -- Carried on by the next slice it is the run with both budgets.
   module _ {steps size : ℕ} {out : Bytes} (its : SpentRun steps size out) where
@@ -247,5 +251,5 @@ module _ (bytes ranks record' : Bytes) (a b : ℕ) where
         ∙ ap (later_on its.ran.steps) (sym (runs_on.goes_on bytes ranks record' a its.ran found b 513 (omega arith)))
         ∙ ap₂ (λ (n : ℕ) (l : Bytes). later_on n (run bytes ranks l b 513)) its.made (sym its.stands)
 
-    pub carried_on_lem : {answer : RunReply} {after : Bytes} → OneRun (later_on steps (run bytes ranks (take size out) b 513)) answer after → OneRun whole answer after
+    pub carried_on_lem : {answer : Result RanTo Named} {after : Bytes} → OneRun (later_on steps (run bytes ranks (take size out) b 513)) answer after → OneRun whole answer after
     carried_on_lem {answer} {after} one = subst (λ (x : Reply Ran). OneRun x answer after) (sym goes_on) one

@@ -11,17 +11,19 @@ use mir.Syntax.{Dict}
 use Rattle.std.specs.declared.io.Print as printing
 use Rattle.std.specs.declared.io.stdio.IsTerminal as terminals
 use lib.ListN.{length, take}
+use Rattle.std.specs.Prelude.{Result}
 use Rattle.reply.specs.Reply.{given}
+use Rattle.reply.specs.declared.Refusal.{Refusal as Named}
 use Rattle.record.specs.Record.{record_bytes}
 use Rattle.steps.specs.Run.{Ran, run}
 use Rattle.running.specs.RunMeaning.{run_meaning}
-use Rattle.running.specs.declared.RunReply.{RunReply}
+use Rattle.running.specs.declared.RanTo.{RanTo}
 use Rattle.slices.proofs.run.Kinds as run_kinds
 use Rattle.slices.proofs.run.Reads as run_reads
 
 pub run_settled :
     (screen : RattleType) (laws : Laws screen) (prints : printing.Ghosts screen.Denot) (print : Dict) (tells : terminals.Ghosts screen.Denot) (tell : Dict) →
-    (κs : Lfts 6) (a : Dens κs (run_kinds.ps screen laws)) (r r' : RunReply) (e e' : AtExit (ended_of 6 (run_kinds.ps screen laws) (run_kinds.r screen laws)) κs) →
+    (κs : Lfts 6) (a : Dens κs (run_kinds.ps screen laws)) (r r' : Result RanTo Named) (e e' : AtExit (ended_of 6 (run_kinds.ps screen laws) (run_kinds.r screen laws)) κs) →
     run_reads.Post screen laws prints print tells tell κs a r e → run_reads.Post screen laws prints print tells tell κs a r' e' →
     (run_meaning r ≡ run_meaning r')
     × ((ran : Ran) → run a.1.0.now a.1.1.0.now a.1.1.1.0.now a.1.1.1.1.0 513 ≡ given ran →

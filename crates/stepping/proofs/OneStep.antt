@@ -5,7 +5,7 @@ use mathlib.Core.Option.{some}
 use mathlib.Core.Path.{◌≡◌, sym, ap, ap₂, subst, ◌∙◌}
 use native.Mathlib.Omega.{arith}
 use lib.Dec.{T}
-use lib.ListN.{length, get_or, take, drop, length-append, length-drop}
+use lib.ListN.{length, take, drop, length-append, length-drop}
 use lib.Seq.{drop-length, length-take-le, take-length}
 use Rattle.term.specs.Term.{Term, size, over}
 use Rattle.term.specs.Replacement.{Replacement, replace}
@@ -14,6 +14,7 @@ use Rattle.term.specs.At.{At}
 use Rattle.term.proofs.At.{at_unique, at_end_lem, at_within}
 use Rattle.term.proofs.PrefixAt.{prefix_length, at_over, prefix_at}
 use Rattle.book.specs.Book.{Rule}
+use Rattle.book.specs.Entries.{places_of}
 use Rattle.book.specs.declared.Book.{Book as Places}
 use Rattle.steps.specs.Fits.{matching}
 use Rattle.steps.specs.Step.{rule_of, applied, step_of}
@@ -87,11 +88,11 @@ module _
     terms = λ x o. step_at.at_place.applies.variables x (stand.no_new i declared x o);
   }
 
-  pub right_stands : At book places.arities (get_or places.right_at place.fit.rule 0) (rule_of rules place.fit.rule).right (right_end places place.fit.rule)
+  pub right_stands : At book places.arities (places_of places place.fit.rule).right.at (rule_of rules place.fit.rule).right (right_end places place.fit.rule)
   right_stands = stand.rights i declared
 
   pub right_there :
-      RightAt book bytes places.arities place.fit.table (get_or places.right_at place.fit.rule 0) (right_end places place.fit.rule)
+      RightAt book bytes places.arities place.fit.table (places_of places place.fit.rule).right.at (right_end places place.fit.rule)
   right_there = record {
     right = (rule_of rules i).right;
     replacement = under_match;

@@ -3,27 +3,28 @@
 use Prim.Native.Nat.{ℕ, ◌+◌, ◌*◌, ◌<◌, ◌≤◌}
 use mathlib.Core.List.{List}
 use native.Mathlib.Omega.{arith}
-use lib.ListN.{length, get_or}
+use lib.ListN.{length}
 use Rattle.term.specs.Term.{var, size}
 use Rattle.term.specs.Replacement.{Occurs}
 use Rattle.term.specs.At.{At}
 use Rattle.book.specs.Book.{Rule}
+use Rattle.book.specs.Entries.{places_of}
+use Rattle.book.specs.WasRead.{ReadFrom}
 use Rattle.book.specs.declared.Book.{Book as Places}
 use Rattle.book.proofs.WasRead.{read_stands, read_limits, right_limits}
 use Rattle.steps.specs.Step.{NoNewVariable, rule_of}
 use Rattle.steps.proofs.StaysOver.{rule_member}
-use Rattle.matching.specs.Runnable.{rules_in, Runnable}
-use Rattle.matching.specs.FirstPlace.{LeftsAt}
-use Rattle.matching.proofs.LeftsAt.{lefts_stand}
+use Rattle.matching.specs.RulesIn.{rules_in}
+use Rattle.matching.proofs.LeftsAt.{LeftsAt, lefts_stand}
 
 -- Where the right side of rule i ends, two bytes a node.
 abbrev pub right_end : Places → (i : ℕ) → ℕ
-right_end places i = get_or places.right_at i 0 + 2 * get_or places.right_nodes i 0
+right_end places i = (places_of places i).right.at + 2 * (places_of places i).right.nodes
 
 -- The right sides, and the left sides that are looked at.
 pub record RulesAt (bytes : List ℕ) (places : Places) (rules : List Rule) : Type 0 where
-  pub lefts : LeftsAt bytes places.arities places.rules places.left_at places.left_nodes rules
-  pub rights : (i : ℕ) → i < length rules → At bytes places.arities (get_or places.right_at i 0) (rule_of rules i).right (right_end places i)
+  pub lefts : LeftsAt bytes places rules
+  pub rights : (i : ℕ) → i < length rules → At bytes places.arities (places_of places i).right.at (rule_of rules i).right (right_end places i)
   pub no_new : (i : ℕ) → i < length rules → (x : ℕ) → Occurs x (rule_of rules i).right → Occurs x (rule_of rules i).left
   pub nodes : (i : ℕ) → i < length rules → size (rule_of rules i).right ≤ 10
 
@@ -32,13 +33,13 @@ abbrev none : Rule
 none = record { left = var 0; right = var 0 }
 
 module _ {bytes : List ℕ} {places : Places} where
-  pub rules_stand : Runnable bytes places → RulesAt bytes places (rules_in bytes places)
+  pub rules_stand : ReadFrom bytes places → NoNewVariable (rules_in bytes places) → RulesAt bytes places (rules_in bytes places)
   unfolding NoNewVariable
-  rules_stand runs =
-      let stands = read_stands runs.read in
+  rules_stand read no_new =
+      let stands = read_stands read in
       record {
-        lefts = lefts_stand runs.read;
+        lefts = lefts_stand read;
         rights = λ i p. (stands.right i none (omega (arith, stands.rule_count))).stands;
-        no_new = λ i p x o. runs.no_new (rule_of (rules_in bytes places) i) (rule_member (rules_in bytes places) i p) x o;
-        nodes = λ i p. (right_limits (read_limits runs.read) i none p).nodes;
+        no_new = λ i p x o. no_new (rule_of (rules_in bytes places) i) (rule_member (rules_in bytes places) i p) x o;
+        nodes = λ i p. (right_limits (read_limits read) i none p).nodes;
       }

@@ -10,6 +10,7 @@ use borrow.Fn.Kinds.{Dens, ended_of}
 use denote.Triple.Clauses.{AtExit}
 use lib.ListN.{take, drop, take-append-drop}
 use lib.Seq.{take-take}
+use Rattle.std.specs.Prelude.{Result, Ok, Err}
 use Rattle.term.specs.Term.{Term, size}
 use Rattle.term.specs.Prefix.{prefix}
 use Rattle.term.proofs.At.{at_end_lem}
@@ -21,8 +22,6 @@ use Rattle.steps.proofs.Chosen.{found_nothing}
 use Rattle.stepping.specs.Stepped.{outcome_of, NextIn, Tells}
 use Rattle.stepping.specs.declared.Outcome.{Outcome}
 use Rattle.stepping.specs.declared.Outcome.TheVariants.{Done, Spent, TooLarge}
-use Rattle.stepping.specs.declared.Stepped.{Stepped}
-use Rattle.stepping.specs.declared.Stepped.TheVariants.{Ended, Made}
 use Rattle.stepping.proofs.step.Kinds as step_kinds
 use Rattle.stepping.proofs.step.Reads as step
 
@@ -71,15 +70,15 @@ module _ (arities : List ℕ) (rules : List Rule) (t : Term) (left : ℕ) where
       )
 
   told_once :
-      (before after after' : List ℕ) (a b : Stepped) → Tells a arities rules t left before after → Tells b arities rules t left before after' →
+      (before after after' : List ℕ) (a b : Result ℕ Outcome) → Tells a arities rules t left before after → Tells b arities rules t left before after' →
       (a ≡ b) × (after ≡ after')
   unfolding Tells
-  told_once before after after' (Ended o) (Ended o') (p, kept) (q, kept') = (ap (λ (x : Outcome). Ended x) (outcome_once o o' p q), kept ∙ sym kept')
-  told_once before after after' (Ended o) (Made n) (p, kept) next = absurd (ends_or_goes o p next)
-  told_once before after after' (Made n) (Ended o) next (q, kept) = absurd (ends_or_goes o q next)
-  told_once before after after' (Made n) (Made m) next next' = let (long, same) = next_once next next' in (ap (λ (k : ℕ). Made k) long, same)
+  told_once before after after' (Err o) (Err o') (p, kept) (q, kept') = (ap (λ (x : Outcome). Err x) (outcome_once o o' p q), kept ∙ sym kept')
+  told_once before after after' (Err o) (Ok n) (p, kept) next = absurd (ends_or_goes o p next)
+  told_once before after after' (Ok n) (Err o) next (q, kept) = absurd (ends_or_goes o q next)
+  told_once before after after' (Ok n) (Ok m) next next' = let (long, same) = next_once next next' in (ap (λ (k : ℕ). Ok k) long, same)
 
 pub step_settled :
-    (κs : Lfts 3) (a : Dens κs step_kinds.ps) (r r' : Stepped) (e e' : AtExit (ended_of 3 step_kinds.ps step_kinds.r) κs) →
-    step.Pre κs a → step.Post κs a r e → step.Post κs a r' e' → (r ≡ r') × (e.1.1.1.1.0.now ≡ e'.1.1.1.1.0.now)
-step_settled κs a r r' e e' (runs, (whole, rest)) p p' = told_once _ _ _ _ _ _ _ r r' (p whole.term whole.stands) (p' whole.term whole.stands)
+    (κs : Lfts 4) (a : Dens κs step_kinds.ps) (r r' : Result ℕ Outcome) (e e' : AtExit (ended_of 4 step_kinds.ps step_kinds.r) κs) →
+    step.Pre κs a → step.Post κs a r e → step.Post κs a r' e' → (r ≡ r') × (e.1.1.1.0.now ≡ e'.1.1.1.0.now)
+step_settled κs a r r' e e' (no_new, (whole, rest)) p p' = told_once _ _ _ _ _ _ _ r r' (p whole.term whole.stands) (p' whole.term whole.stands)

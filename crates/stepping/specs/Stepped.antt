@@ -1,5 +1,5 @@
 -- What one turn of a run tells: the run ends at the term at hand, or the next term lies in the buffer.
-use Rattle.std.specs.Prelude.{ℕ, ◌<◌, ◌≤◌, List, ◌≡◌, take, drop}
+use Rattle.std.specs.Prelude.{ℕ, ◌<◌, ◌≤◌, List, ◌≡◌, take, drop, Result, Ok, Err}
 use Rattle.std.proofs.Math.Option.{some}
 use Rattle.term.specs.Term.{Term, size}
 use Rattle.term.specs.At.{At}
@@ -8,8 +8,6 @@ use Rattle.steps.specs.Step.{step_of}
 use Rattle.steps.specs.Run.{Outcome, done, spent, too_large, Means}
 use Rattle.stepping.specs.declared.Outcome.{Outcome as Ending}
 use Rattle.stepping.specs.declared.Outcome.TheVariants.{Done, Spent, TooLarge}
-use Rattle.stepping.specs.declared.Stepped.{Stepped}
-use Rattle.stepping.specs.declared.Stepped.TheVariants.{Ended, Made}
 
 -- The outcome on paper.
 unfoldable pub outcome_of : Ending → Outcome
@@ -27,6 +25,6 @@ pub record NextIn (arities : List ℕ) (rules : List Rule) (t : Term) (left leng
   pub kept : drop length buffer ≡ drop length before
 
 -- With so many steps left and none made. Where the run ends, the buffer is left as it was.
-unfoldable pub Tells : Stepped → (arities : List ℕ) → List Rule → Term → (left : ℕ) (before buffer : List ℕ) → Type 0
-Tells (Ended outcome) arities rules t left before buffer = Means (outcome_of outcome) rules left 0 t × (buffer ≡ before)
-Tells (Made length) arities rules t left before buffer = NextIn arities rules t left length before buffer
+unfoldable pub Tells : Result ℕ Ending → (arities : List ℕ) → List Rule → Term → (left : ℕ) (before buffer : List ℕ) → Type 0
+Tells (Err outcome) arities rules t left before buffer = Means (outcome_of outcome) rules left 0 t × (buffer ≡ before)
+Tells (Ok length) arities rules t left before buffer = NextIn arities rules t left length before buffer

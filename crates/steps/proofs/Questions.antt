@@ -6,6 +6,7 @@ use mathlib.Core.Path.{◌≡◌, sym, ap, subst, ◌∙◌}
 use native.Mathlib.Omega.{arith}
 use lib.ListN.{length, take}
 use lib.Seq.{take-length}
+use Rattle.std.specs.Prelude.{Err}
 use Rattle.reply.specs.Reply.{given, refused, told_as}
 use Rattle.reply.specs.Refusals.{numbered}
 use Rattle.term.specs.Term.{Term, size}
@@ -18,18 +19,16 @@ use Rattle.book.specs.Meaning.{arities_of, book_at}
 use Rattle.record.specs.Meaning.{record_meaning}
 use Rattle.book.specs.declared.Book.{Book as Places}
 use Rattle.record.specs.declared.RecordFault.{RecordFault}
-use Rattle.record.specs.declared.RecordVerdict.{RecordVerdict}
-use Rattle.record.specs.declared.RecordVerdict.TheVariants.{Faulty}
 
 module _ (bytes : List ℕ) (places : Places) (text : List ℕ) where
   abbrev Declared : List ℕ
   Declared = take places.symbols places.arities
 
   pub record_faulty :
-      (verdict : RecordVerdict) (fault : RecordFault) → record_meaning text Declared verdict ≡ record_term Declared text → verdict ≡ Faulty fault →
+      (fault : RecordFault) → record_meaning text Declared (Err fault) ≡ record_term Declared text →
       read_record (book_at bytes places).arities text ≡ refused (numbered (fault_refusal fault))
   unfolding read_record book_at arities_of told_as refusal_of record_meaning
-  record_faulty verdict fault means is = ap (told_as refusal_of) (sym means ∙ ap (record_meaning text Declared) is)
+  record_faulty fault means = ap (told_as refusal_of) (sym means)
 
   pub record_whole : (t : Term) → record_term Declared text ≡ given t → read_record (book_at bytes places).arities text ≡ given t
   unfolding read_record book_at arities_of told_as

@@ -6,8 +6,10 @@ use mathlib.Core.Path.{◌≡◌, refl, sym, ap, ap₂, subst, ◌∙◌}
 use native.Mathlib.Nat.{zero-add, suc-add}
 use native.Mathlib.Omega.{arith}
 use lib.ListN.{length, get_or}
+use Rattle.std.specs.Prelude.{Some, None}
+use Rattle.std.proofs.lemmas.Option.{same_Some, none-some}
 use Rattle.term.specs.Term.{Term, Args, var, app, nil, cons, size, sizes, count}
-use Rattle.term.specs.Root.{arguments}
+use Rattle.term.specs.Root.{symbol_of, arguments}
 use Rattle.term.specs.At.{At, ArgsAt, variable_at, symbol_at, none_at, and_at}
 
 -- No byte is both kinds of node.
@@ -138,14 +140,32 @@ module _ {bytes arities : List ℕ} where
   variable_root (variable_at w k b q) p = record { kind = k; variable = ap var (sym b); none = refl; ends = q }
   variable_root (symbol_at w k b l h) p = absurd (p k)
 
-  -- How many arguments there are, by the node's kind.
-  pub symbol_arguments :
-      {u : ℕ} {t : Term} {e : ℕ} → At bytes arities u t e → get_or bytes u 0 ≡ 3 → count (arguments t) ≡ get_or arities (get_or bytes (u + 1) 0) 0
-  symbol_arguments h p = (symbol_root h p).arity
+  -- The root's symbol, by the node's kind.
+  pub root_symbol : {u : ℕ} {t : Term} {e : ℕ} → At bytes arities u t e → get_or bytes u 0 ≡ 3 → symbol_of t ≡ Some (get_or bytes (u + 1) 0)
+  unfolding symbol_of
+  root_symbol (variable_at w k b q) p = both_kinds refl p k
+  root_symbol (symbol_at w k b l h) p = ap Some (sym b)
 
-  pub variable_arguments : {u : ℕ} {t : Term} {e : ℕ} → At bytes arities u t e → (get_or bytes u 0 ≡ 3 → ⊥) → count (arguments t) ≡ 0
-  unfolding count
-  variable_arguments h p = ap count (variable_root h p).none
+  pub root_variable : {u : ℕ} {t : Term} {e : ℕ} → At bytes arities u t e → (get_or bytes u 0 ≡ 3 → ⊥) → symbol_of t ≡ None
+  unfolding symbol_of
+  root_variable (variable_at w k b q) p = refl
+  root_variable (symbol_at w k b l h) p = absurd (p k)
+
+  -- How many arguments there are, by the root's symbol, which is declared.
+  pub symbol_declared : {u : ℕ} {t : Term} {e g : ℕ} → At bytes arities u t e → symbol_of t ≡ Some g → g < length arities
+  unfolding symbol_of
+  symbol_declared (variable_at w k b q) p = absurd (none-some _ p)
+  symbol_declared {g = g} (symbol_at {f = f} w k b l h) p = subst (λ i. i < length arities) (same_Some f g p) l
+
+  pub arguments_of_symbol : {u : ℕ} {t : Term} {e g : ℕ} → At bytes arities u t e → symbol_of t ≡ Some g → count (arguments t) ≡ get_or arities g 0
+  unfolding symbol_of arguments
+  arguments_of_symbol (variable_at w k b q) p = absurd (none-some _ p)
+  arguments_of_symbol {g = g} (symbol_at {f = f} w k b l h) p = args_count h ∙ ap (λ i. get_or arities i 0) (same_Some f g p)
+
+  pub arguments_of_none : {u : ℕ} {t : Term} {e : ℕ} → At bytes arities u t e → symbol_of t ≡ None → count (arguments t) ≡ 0
+  unfolding symbol_of arguments count
+  arguments_of_none (variable_at w k b q) p = refl
+  arguments_of_none (symbol_at w k b l h) p = absurd (none-some _ (sym p))
 
   -- Several terms part into the first and the others; none ends where it begins.
   pub args_first : {many u : ℕ} {ts : Args} {e : ℕ} → ArgsAt bytes arities many u ts e → 0 < many → FirstAt bytes arities many u ts e

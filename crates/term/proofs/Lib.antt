@@ -3,6 +3,7 @@ pub mod Same
 pub mod Nodes
 pub mod Prefix
 pub mod Tables
+pub mod KindByte
 pub mod At
 pub mod MoreSymbols
 pub mod SameAt

@@ -1,4 +1,5 @@
 pub mod Tables
+pub mod Kinds
 pub mod Term
 pub mod Root
 pub mod Prefix

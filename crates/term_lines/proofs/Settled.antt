@@ -12,8 +12,8 @@ use Rattle.term_lines.proofs.write_term_lines.Kinds as write_term_lines_kinds
 use Rattle.term_lines.proofs.write_term_lines.Reads as write_term_lines
 
 pub write_term_lines_settled :
-    (κs : Lfts 2) (a : Dens κs write_term_lines_kinds.ps) (r r' : ℕ)
-    (e e' : AtExit (ended_of 2 write_term_lines_kinds.ps write_term_lines_kinds.r) κs) →
-    (t : Term) (end : ℕ) → At a.0.now a.1.1.0 0 t end →
-    write_term_lines.Post κs a r e → write_term_lines.Post κs a r' e' → (r ≡ r') × (e.1.1.1.0.now ≡ e'.1.1.1.0.now)
+    (κs : Lfts 3) (a : Dens κs write_term_lines_kinds.ps) (r r' : ℕ)
+    (e e' : AtExit (ended_of 3 write_term_lines_kinds.ps write_term_lines_kinds.r) κs) →
+    (t : Term) (end : ℕ) → At a.0.now.bytes.now a.0.now.arities 0 t end →
+    write_term_lines.Post κs a r e → write_term_lines.Post κs a r' e' → (r ≡ r') × (e.1.1.0.now ≡ e'.1.1.0.now)
 write_term_lines_settled κs a r r' e e' t end stands p p' = lays_settled (p.told t end stands) (p'.told t end stands)

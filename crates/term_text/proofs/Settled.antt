@@ -13,9 +13,9 @@ use Rattle.term_text.proofs.write_term.Kinds as write_term_kinds
 use Rattle.term_text.proofs.write_term.Reads as write_term
 
 pub write_term_settled :
-    (κs : Lfts 2) (a : Dens κs write_term_kinds.ps) (r r' : Texted) (e e' : AtExit (ended_of 2 write_term_kinds.ps write_term_kinds.r) κs) →
-    (t : Term) (end : ℕ) → At a.0.now a.1.0 a.1.1.0 t end →
-    write_term.Post κs a r e → write_term.Post κs a r' e' → (r ≡ r') × (e.1.1.1.0.now ≡ e'.1.1.1.0.now)
+    (κs : Lfts 3) (a : Dens κs write_term_kinds.ps) (r r' : Texted) (e e' : AtExit (ended_of 3 write_term_kinds.ps write_term_kinds.r) κs) →
+    (t : Term) (end : ℕ) → At a.0.now.bytes.now a.0.now.arities a.1.0 t end →
+    write_term.Post κs a r e → write_term.Post κs a r' e' → (r ≡ r') × (e.1.1.0.now ≡ e'.1.1.0.now)
 write_term_settled κs a r r' e e' t end stands p p' =
     let (count, after) = lays_settled (p.text t end stands).0 (p'.text t end stands).0 in
     (ap₂ (λ (l n : ℕ). record { laid = l; next = n }) count ((p.text t end stands).1 ∙ sym (p'.text t end stands).1), after)

@@ -4,6 +4,8 @@ use mathlib.Core.List.{List, [], ◌∷◌, ◌++◌, append_assoc, append-nil}
 use mathlib.Core.Path.{◌≡◌, refl, sym, ap, subst, ◌∙◌}
 use native.Mathlib.Omega.{arith}
 use lib.ListN.{length, get_or}
+use Rattle.std.specs.List.{slice_range}
+use Rattle.std.proofs.lemmas.Grind.{common_steps}
 use borrow.Rule.Slice.PartMut.{mid_of, put_mid, mid_len, same_len_mid}
 use Rattle.text.specs.Laying.{Lays}
 use Rattle.text.specs.Text.{ascii}
@@ -11,10 +13,16 @@ use Rattle.text.proofs.Laying.{lays_as, lays_then, lays_length}
 use Rattle.term.specs.Term.{Term, Args, var, app, nil, cons}
 use Rattle.term.specs.Prefix.{Node, symbolic, variable, node_of, arity_of}
 use Rattle.term.specs.At.{At, ArgsAt, variable_at, symbol_at, none_at, and_at}
-use Rattle.term.proofs.At.{at_root_lem, args_first, args_none}
+use Rattle.term.proofs.At.{args_first, args_none}
 use Rattle.term.proofs.Nodes.{symbol_node, variable_node}
 use Rattle.term_text.specs.TermText.{name_text, term_text, bracketed, later_text, arguments_text, LaysTerm, LaysArguments}
 use Rattle.term_text.specs.declared.Texted.{Texted}
+
+-- The two bytes of the node that stands at the start of the bytes from u on.
+pub node_here :
+    (bytes part : List ℕ) (u : ℕ) → part ≡ slice_range bytes u (length bytes) → 2 ≤ length part →
+    (get_or part 0 0 ≡ get_or bytes u 0) × (get_or part 1 0 ≡ get_or bytes (u + 1) 0)
+node_here bytes part u e h = (grind (arith, common_steps), grind (arith, common_steps))
 
 -- Behind a comma the arguments go on; behind the opening bracket they begin.
 after_comma : (ts : Args) → arguments_text 44 ts ≡ later_text ts
@@ -95,11 +103,6 @@ module _ {bytes arities : List ℕ} where
 
       room : at ≤ length before
       room = omega (arith, inner.within, mid_len k (length one) one (omega arith), marked.count, lays_length marked)
-
-  -- Where the bytes end no term stands.
-  pub no_term_lem :
-      (u : ℕ) (before : List ℕ) → length bytes ≤ u + 1 → LaysTerm bytes arities u before (record { laid = 0; next = u }) before
-  no_term_lem u before short = record { within = omega arith; onward = omega arith; text = λ t e h. absurd (omega (arith, short, at_root_lem h)) }
 
   -- A node without arguments.
   pub node_alone :

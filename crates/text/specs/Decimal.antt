@@ -1,5 +1,5 @@
 -- Numbers in decimal, written and read.
-use Rattle.std.specs.Prelude.{ℕ, zero, suc, ◌+◌, ◌-◌, ◌*◌, ◌/◌, ◌%◌, Bool, true, false, ◌&&◌, List, [], ◌∷◌, ◌++◌, leb, ltb, eqb}
+use Rattle.std.specs.Prelude.{ℕ, zero, suc, ◌+◌, ◌-◌, ◌*◌, ◌/◌, ◌%◌, true, false, ◌&&◌, List, [], ◌∷◌, ◌++◌, leb, ltb, eqb}
 use Rattle.std.proofs.Math.Option.{Option, none, some}
 
 -- A number in decimal without leading zeros. It has at most as many digits as `fuel` and one more.

@@ -8,8 +8,8 @@ ghost use Rattle.text.specs.Laying.{Lays};
 pub fn write_byte(b: u8, out: &mut [u8]) -> usize
     ensures { Lays (b ∷ []) out.old result out.new }
 {
-    if 0 < out.len() {
-        out[0] = b;
+    if let Some(first) = out.first_mut() {
+        *first = b;
         1
     } else {
         0
@@ -20,15 +20,9 @@ pub fn write_byte(b: u8, out: &mut [u8]) -> usize
 pub fn write_text(text: &[u8], out: &mut [u8]) -> usize
     ensures { Lays text.now out.old result out.new }
 {
-    let mut at = 0;
-    while at < text.len() {
-        if out.len() <= at {
-            return at;
-        }
-        out[at] = text[at];
-        at += 1;
-    }
-    at
+    let many = text.len().min(out.len());
+    out[..many].copy_from_slice(&text[..many]);
+    many
 }
 
 // A digit, from 0 to 9.

@@ -1,92 +1,55 @@
 // The calls, each shown with its reply.
-use crate::{fields, show};
-use answer::Answered;
-use asking::ArgumentReply;
-use blocks::Written;
-use book::BookVerdict;
-use clearing::RanksVerdict;
-use record::RecordVerdict;
-use running::{Outcome, RunReply};
+use crate::lent::Lent;
+use crate::show;
+use book::Book;
+use reply::Refusal;
+use running::Outcome;
 use std::io;
 
 pub(crate) fn book(rt: &impl Print, book: &[u8]) -> io::Result<()> {
-    let read = book::read_book(book);
-    let verdict = read.verdict;
-    match verdict {
-        BookVerdict::Readable => {
-            show::text(rt, b"read, ")?;
-            show::counted(rt, read.book.symbols, b" symbols, ")?;
-            show::counted(rt, read.book.rules, b" rules")
-        }
-        BookVerdict::Refused(refusal) => show::refused(rt, refusal),
+    match book::read_book(book) {
+        Ok(read) => print!(rt; "read, {} symbols, {} rules", read.symbols, read.rules),
+        Err(refusal) => show::refused(rt, refusal),
     }
 }
 
 pub(crate) fn record(rt: &impl Print, book: &[u8], record: &[u8]) -> io::Result<()> {
-    let read = book::read_book(book);
-    let places = read.book;
-    let symbols = places.symbols;
-    let arities = places.arities;
-    let verdict = record::read_record(record, symbols, arities);
-    match verdict {
-        RecordVerdict::Whole(nodes) => {
-            show::text(rt, b"read, ")?;
-            show::counted(rt, nodes, b" nodes")
-        }
-        RecordVerdict::Faulty(fault) => show::refused(rt, record::record_refusal(fault)),
+    let Book {
+        symbols,
+        arities,
+        ..
+    } = book::read_book(book).unwrap_or_default();
+    match record::read_record(record, symbols, arities) {
+        Ok(nodes) => print!(rt; "read, {nodes} nodes"),
+        Err(fault) => show::refused(rt, Refusal::from(fault)),
     }
 }
 
-pub(crate) fn block(
-    rt: &impl Print,
-    book: &[u8],
-    number: u64,
-    wanted: u64,
-    buffer: &mut [u8],
-) -> io::Result<()> {
-    let room = fields::within(wanted, buffer);
-    let written = blocks::write_block(book, number, &mut buffer[..room]);
-    match written {
-        Written::Laid(length) => {
-            show::lines(rt, buffer, length)?;
-            show::later(rt, buffer, length)
+pub(crate) fn block(rt: &impl Print, book: &[u8], number: u64, lent: &mut Lent) -> io::Result<()> {
+    match blocks::write_block(book, number, lent.room()) {
+        Ok(length) => {
+            show::lines(rt, lent.laid(length))?;
+            lent.show_later(rt, length)
         }
-        Written::Refused(refusal) => show::refused_with(rt, refusal, buffer),
+        Err(refusal) => lent.show_refused(rt, refusal),
     }
 }
 
 pub(crate) fn ranks(rt: &impl Print, book: &[u8], ranks: &[u8]) -> io::Result<()> {
-    let verdict = clearing::check_ranks(book, ranks);
-    match verdict {
-        RanksVerdict::Accepted => show::text(rt, b"accepted"),
-        RanksVerdict::Refused(refusal) => show::refused(rt, refusal),
+    match clearing::check_ranks(book, ranks) {
+        Ok(()) => print!(rt; "accepted"),
+        Err(refusal) => show::refused(rt, refusal),
     }
 }
 
-pub(crate) fn answer(
-    rt: &impl Print,
-    book: &[u8],
-    text: &[u8],
-    wanted: u64,
-    buffer: &mut [u8],
-) -> io::Result<()> {
-    let room = fields::within(wanted, buffer);
-    let answered = answer::ranks_from_answer(book, text, &mut buffer[..room]);
-    match answered {
-        Answered::Accepted(symbols) => {
-            show::text(rt, b"ranks ")?;
-            show::bytes(rt, buffer, symbols)?;
-            show::later(rt, buffer, symbols)
+pub(crate) fn answer(rt: &impl Print, book: &[u8], text: &[u8], lent: &mut Lent) -> io::Result<()> {
+    match answer::ranks_from_answer(book, text, lent.room()) {
+        Ok(symbols) => {
+            print!(rt; "ranks ")?;
+            show::bytes(rt, lent.laid(symbols))?;
+            lent.show_later(rt, symbols)
         }
-        Answered::Refused(refusal) => show::refused_with(rt, refusal, buffer),
-    }
-}
-
-fn outcome(rt: &impl Print, outcome: Outcome) -> io::Result<()> {
-    match outcome {
-        Outcome::Done => show::text(rt, b"done, "),
-        Outcome::Spent => show::text(rt, b"spent, "),
-        Outcome::TooLarge => show::text(rt, b"too large, "),
+        Err(refusal) => lent.show_refused(rt, refusal),
     }
 }
 
@@ -96,38 +59,30 @@ pub(crate) fn run(
     ranks: &[u8],
     record: &[u8],
     budget: u64,
-    wanted: u64,
-    buffer: &mut [u8],
+    lent: &mut Lent,
 ) -> io::Result<()> {
-    let room = fields::within(wanted, buffer);
-    let ran = running::run(book, ranks, record, budget, &mut buffer[..room]);
-    match ran {
-        RunReply::RanTo {
-            outcome: how,
-            steps,
-            length,
-        } => {
-            outcome(rt, how)?;
-            show::counted(rt, steps as usize, b" steps, ")?;
-            show::bytes(rt, buffer, length)?;
-            show::later(rt, buffer, length)
+    match running::run(book, ranks, record, budget, lent.room()) {
+        Ok(ran) => {
+            let how = match ran.outcome {
+                Outcome::Done => "done",
+                Outcome::Spent => "spent",
+                Outcome::TooLarge => "too large",
+            };
+            print!(rt; "{how}, {} steps, ", ran.steps)?;
+            show::bytes(rt, lent.laid(ran.length))?;
+            lent.show_later(rt, ran.length)
         }
-        RunReply::Refused(refusal) => show::refused_with(rt, refusal, buffer),
+        Err(refusal) => lent.show_refused(rt, refusal),
     }
 }
 
 // The part, then where it starts or, by "a second question on the same input", the refusal's number.
 pub(crate) fn argument(rt: &impl Print, book: &[u8], record: &[u8], number: u64) -> io::Result<()> {
-    let part = asking::argument(book, record, number);
-    show::bytes(rt, part, part.len())?;
-    let reply = asking::argument_reply(book, record, number);
-    match reply {
-        ArgumentReply::Found { start, length: _ } => {
-            show::text(rt, b" from ")?;
-            show::counted(rt, start, b"")
-        }
-        ArgumentReply::Refused(refusal) => {
-            show::text(rt, b", ")?;
+    show::bytes(rt, asking::argument(book, record, number))?;
+    match asking::argument_reply(book, record, number) {
+        Ok(found) => print!(rt; " from {}", found.start),
+        Err(refusal) => {
+            print!(rt; ", ")?;
             show::refused(rt, refusal)
         }
     }

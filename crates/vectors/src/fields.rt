@@ -1,65 +1,51 @@
 // The words of a row, parted by single spaces, and what they stand for.
-ghost use Rattle.std.specs.Prelude.{◌≤◌, ◌<◌, length};
-ghost use Rattle.vectors.specs.Counts.{IsPrefixLen};
-
-// The first place from `at` on that holds the byte `mark`; where there is none, the length.
-pub fn next(text: &[u8], at: usize, mark: u8) -> usize
-    requires { at ≤ length text.now }
-    ensures onward { at ≤ result }
-    ensures counts { IsPrefixLen result text.now }
-{
-    words::next(text, at, mark)
-}
+ghost use Rattle.std.specs.Prelude.{◌<◌, ◌≤◌, IfSome, length};
 
 // What stands behind the first word.
 pub(crate) fn rest(row: &[u8]) -> &[u8] {
-    let end = next(row, 0, b' ');
-    if end < row.len() {
-        &row[end + 1..]
-    } else {
-        &row[end..]
+    match row.iter().position(|byte| *byte == b' ') {
+        Some(end) => &row[end + 1..],
+        None => &[],
     }
 }
 
-// The number, below 2^64, that the first word gives in decimal.
+// The number, below 2^64, that the first word gives in decimal; 0 where it is none.
 pub(crate) fn number(row: &[u8]) -> u64 {
-    let end = next(row, 0, b' ');
-    words::number_within(&row[..end], usize::MAX) as u64
+    let word = row.split(|byte| *byte == b' ').next().unwrap_or(row);
+    words::number_within(word, usize::MAX).unwrap_or(0) as u64
 }
 
-// The value of a hexadecimal digit; 16 for any other byte.
-fn digit(byte: u8) -> u8
-    ensures { result < 17 }
+// The value of a hexadecimal digit.
+fn digit(byte: u8) -> Option<u8>
+    ensures { IfSome result (λ value. value < 16) }
 {
     match byte {
-        b'0'..=b'9' => byte - b'0',
-        b'a'..=b'f' => byte - b'a' + 10,
-        _ => 16,
+        b'0'..=b'9' => Some(byte - b'0'),
+        b'a'..=b'f' => Some(byte - b'a' + 10),
+        _ => None,
     }
+}
+
+// The byte that two digits give: none where the first is no digit, and 0 for the second where that is none.
+fn two_digits(pair: &[u8]) -> Option<u8> {
+    let [high, low] = pair else {
+        return None;
+    };
+    Some(16 * digit(*high)? + digit(*low).unwrap_or(0))
 }
 
 // The bytes that the first word gives in hexadecimal, two digits each, as far as they fit; `-` is no byte.
-pub fn bytes(row: &[u8], out: &mut [u8]) -> usize
-    ensures { IsPrefixLen result out.new }
+pub(crate) fn bytes<'a>(row: &[u8], out: &'a mut [u8]) -> &'a [u8]
+    ensures { length result.now ≤ length out.old }
 {
-    let mut n = 0;
-    let mut i = 0;
-    while i < row.len() {
-        if row.len() - i < 2 {
-            return n;
-        }
-        if out.len() <= n {
-            return n;
-        }
-        let high = digit(row[i]);
-        if 15 < high {
-            return n;
-        }
-        out[n] = 16 * high + digit(row[i + 1]) % 16;
-        n += 1;
-        i += 2;
+    let mut given = row.chunks_exact(2).map_while(two_digits);
+    for (n, place) in out.iter_mut().enumerate() {
+        let Some(byte) = given.next() else {
+            return &out[..n];
+        };
+        *place = byte;
     }
-    n
+    out
 }
 
 // In a text `|` stands for a newline, `^` for a carriage return and `~` for a tab; any other byte for itself.
@@ -73,27 +59,19 @@ fn letter(byte: u8) -> u8 {
 }
 
 // The text that words give, as far as it fits.
-pub fn text(words: &[u8], out: &mut [u8]) -> usize
-    ensures { IsPrefixLen result out.new }
+pub(crate) fn text<'a>(words: &[u8], out: &'a mut [u8]) -> &'a [u8]
+    ensures { length result.now ≤ length out.old }
 {
-    let mut i = 0;
-    while i < words.len() {
-        if out.len() <= i {
-            return i;
-        }
-        out[i] = letter(words[i]);
-        i += 1;
+    for (byte, word) in out.iter_mut().zip(words) {
+        *byte = letter(*word);
     }
-    i
+    &out[..words.len().min(out.len())]
 }
 
-// A number of a buffer's bytes: at most all of them.
-pub fn within(wanted: u64, buffer: &[u8]) -> usize
-    ensures { IsPrefixLen result buffer.now }
+// The buffer's first bytes, as many as are wanted: at most all of them.
+pub(crate) fn room(wanted: u64, buffer: &mut [u8]) -> &mut [u8]
+    ensures { length result.now ≤ length buffer.old }
 {
-    if wanted < buffer.len() as u64 {
-        wanted as usize
-    } else {
-        buffer.len()
-    }
+    let most = buffer.len() as u64;
+    &mut buffer[..wanted.min(most) as usize]
 }

@@ -4,7 +4,7 @@
 
 mod calls;
 mod fields;
-mod input;
+mod lent;
 mod rows;
 mod show;
 
@@ -12,7 +12,6 @@ use std::io;
 
 fn main(rt: HostRuntime) -> io::Result<()> {
     let mut rows = [0u8; 65536];
-    let n = input::read_full(&mut rt.stdin(), &mut rows)?;
-    let mut book = [0u8; 4096];
-    rows::show_all(&rt, &rows[..n], &mut book)
+    let n = full_read::read_full(&mut rt.stdin(), &mut rows)?;
+    rows::show_all(&rt, &rows[..n])
 }

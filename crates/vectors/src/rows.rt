@@ -1,126 +1,99 @@
 // The rows: each is a call, told by its first two letters, and is shown with its reply.
-ghost use Rattle.vectors.specs.Counts.{IsPrefixLen};
-
-use crate::{calls, fields, show};
+use crate::lent::Lent;
+use crate::{calls, fields};
 use std::io;
 
 // record RECORD
 fn record(rt: &impl Print, words: &[u8], book: &[u8]) -> io::Result<()> {
     let mut record = [0u8; 1024];
-    let n = fields::bytes(words, &mut record);
-    calls::record(rt, book, &record[..n])
+    calls::record(rt, book, fields::bytes(words, &mut record))
+}
+
+// block NUMBER ROOM
+fn block(rt: &impl Print, words: &[u8], book: &[u8]) -> io::Result<()> {
+    let mut lent = Lent::new(fields::number(fields::rest(words)));
+    calls::block(rt, book, fields::number(words), &mut lent)
 }
 
 // ranks RANKS
 fn ranks(rt: &impl Print, words: &[u8], book: &[u8]) -> io::Result<()> {
     let mut ranks = [0u8; 64];
-    let n = fields::bytes(words, &mut ranks);
-    calls::ranks(rt, book, &ranks[..n])
+    calls::ranks(rt, book, fields::bytes(words, &mut ranks))
 }
 
 // run RANKS RECORD BUDGET ROOM
-fn run(rt: &impl Print, words: &[u8], book: &[u8], buffer: &mut [u8]) -> io::Result<()> {
+fn run(rt: &impl Print, words: &[u8], book: &[u8]) -> io::Result<()> {
     let mut ranks = [0u8; 64];
-    let n = fields::bytes(words, &mut ranks);
-    let behind = fields::rest(words);
     let mut record = [0u8; 1024];
-    let m = fields::bytes(behind, &mut record);
+    let behind = fields::rest(words);
     let last = fields::rest(behind);
+    let mut lent = Lent::new(fields::number(fields::rest(last)));
     calls::run(
         rt,
         book,
-        &ranks[..n],
-        &record[..m],
+        fields::bytes(words, &mut ranks),
+        fields::bytes(behind, &mut record),
         fields::number(last),
-        fields::number(fields::rest(last)),
-        buffer,
+        &mut lent,
     )
 }
 
 // argument RECORD NUMBER
 fn argument(rt: &impl Print, words: &[u8], book: &[u8]) -> io::Result<()> {
     let mut record = [0u8; 1024];
-    let n = fields::bytes(words, &mut record);
-    calls::argument(rt, book, &record[..n], fields::number(fields::rest(words)))
+    let number = fields::number(fields::rest(words));
+    calls::argument(rt, book, fields::bytes(words, &mut record), number)
 }
 
 // answer ROOM TEXT
-fn answer(rt: &impl Print, words: &[u8], book: &[u8], buffer: &mut [u8]) -> io::Result<()> {
-    let mut text = [0u8; 4096];
-    let n = fields::text(fields::rest(words), &mut text);
-    calls::answer(rt, book, &text[..n], fields::number(words), buffer)
+fn answer(rt: &impl Print, words: &[u8], book: &[u8]) -> io::Result<()> {
+    let mut space = [0u8; 4096];
+    let text = fields::text(fields::rest(words), &mut space);
+    calls::answer(rt, book, text, &mut Lent::new(fields::number(words)))
 }
 
 // long ROOM LENGTH TEXT: the text, then c up to a length of so many bytes.
-fn long(rt: &impl Print, words: &[u8], book: &[u8], buffer: &mut [u8]) -> io::Result<()> {
-    let mut text = [b'c'; 65600];
+fn long(rt: &impl Print, words: &[u8], book: &[u8]) -> io::Result<()> {
+    let mut space = [b'c'; 65600];
     let behind = fields::rest(words);
-    fields::text(fields::rest(behind), &mut text);
-    let n = fields::within(fields::number(behind), &text);
-    calls::answer(rt, book, &text[..n], fields::number(words), buffer)
+    fields::text(fields::rest(behind), &mut space);
+    let text = fields::room(fields::number(behind), &mut space);
+    calls::answer(rt, book, text, &mut Lent::new(fields::number(words)))
 }
 
-// The reply to the call with this second letter on these words: book, record, block NUMBER ROOM, ranks, run, argument, answer.
-fn reply(
-    rt: &impl Print,
-    call: u8,
-    words: &[u8],
-    book: &[u8],
-    buffer: &mut [u8],
-) -> io::Result<()> {
-    match call {
-        b'o' => calls::book(rt, book),
-        b'e' => record(rt, words, book),
-        b'l' => calls::block(
-            rt,
-            book,
-            fields::number(words),
-            fields::number(fields::rest(words)),
-            buffer,
-        ),
-        b'a' => ranks(rt, words, book),
-        b'u' => run(rt, words, book, buffer),
-        b'r' => argument(rt, words, book),
-        b'n' => answer(rt, words, book, buffer),
-        _ => show::text(rt, b"no such row"),
-    }
-}
-
-// A row under this book, with its reply; a line that starts with `#` is a remark.
-fn show_row(rt: &impl Print, row: &[u8], book: &[u8]) -> io::Result<()> {
-    show::text(rt, row)?;
-    if row.len() < 2 || row[0] == b'#' {
+// A row under the book that these digits give, with its reply; a line that starts with `#` is a remark.
+fn show_row(rt: &impl Print, row: &[u8], digits: &[u8]) -> io::Result<()> {
+    rt.write_all(row)?;
+    if let [] | [_] | [b'#', ..] = row {
         return Ok(());
     }
-    show::text(rt, b": ")?;
-    let mut buffer = [show::BEFORE; 600];
+    print!(rt; ": ")?;
+    let mut space = [0u8; 4096];
+    let book = fields::bytes(digits, &mut space);
     let words = fields::rest(row);
-    if row[0] == b'l' {
-        long(rt, words, book, &mut buffer)
-    } else {
-        reply(rt, row[1], words, book, &mut buffer)
+    match row {
+        [b'l', ..] => long(rt, words, book),
+        [_, b'o', ..] => calls::book(rt, book),
+        [_, b'e', ..] => record(rt, words, book),
+        [_, b'l', ..] => block(rt, words, book),
+        [_, b'a', ..] => ranks(rt, words, book),
+        [_, b'u', ..] => run(rt, words, book),
+        [_, b'r', ..] => argument(rt, words, book),
+        [_, b'n', ..] => answer(rt, words, book),
+        _ => print!(rt; "no such row"),
     }
 }
 
-// "book BOOK" puts its book into the buffer, for this row and the rows below it. Answers the book's size, which every other row leaves.
-fn book_at(row: &[u8], book: &mut [u8], size: usize) -> usize
-    ensures { IsPrefixLen result book.new }
-{
-    if 4 < row.len() && row[3] == b'k' && row[4] == b' ' {
-        return fields::bytes(fields::rest(row), book);
-    }
-    fields::within(size as u64, book)
-}
-
-pub(crate) fn show_all(rt: &impl Print, rows: &[u8], book: &mut [u8]) -> io::Result<()> {
-    let mut size = 0;
-    let mut at = 0;
-    while at < rows.len() {
-        let end = fields::next(rows, at, b'\n');
-        size = book_at(&rows[at..end], book, size);
-        show_row(rt, &rows[at..end], &book[..size])?;
-        show::text(rt, b"\n")?;
-        at = end + 1;
+// "book BOOK" gives the book of this row and of the rows below it, up to the next.
+pub(crate) fn show_all(rt: &impl Print, rows: &[u8]) -> io::Result<()> {
+    let mut book: &[u8] = &[];
+    for line in rows.split_inclusive(|byte| *byte == b'\n') {
+        let row = line.strip_suffix(b"\n").unwrap_or(line);
+        if let [_, _, _, b'k', b' ', ..] = row {
+            book = fields::rest(row);
+        }
+        show_row(rt, row, book)?;
+        print!(rt; "\n")?;
     }
     Ok(())
 }

@@ -1,18 +1,20 @@
 -- A number from 1 to `top`, read digit by digit: it is 0 as soon as a byte is no digit, the number passes `top`, or it stays 0 behind
 -- its first digit; otherwise one goes on behind the digit. Values only grow. Assumes nothing.
 use Prim.Native.Nat.{ℕ, zero, suc, ◌+◌, ◌-◌, ◌*◌, ◌≤◌, ◌<◌}
-use mathlib.Core.Bool.{Bool, true, false, ◌&&◌}
+use mathlib.Core.Bool.{Bool, true, false, not, ◌&&◌}
 use mathlib.Core.List.{List, [], ◌∷◌}
 use mathlib.Core.Option.{Option, none, some, some-injective, none-ne-some, some-ne-none}
 use mathlib.Core.Path.{◌≡◌, refl, sym, ap, ◌∙◌}
 use native.Mathlib.Decide.{dec_le, ℕ_discrete}
 use native.Mathlib.Omega.{arith}
 use native.Mathlib.Numerals.{add-one}
-use lib.Dec.{leb}
+use lib.Dec.{leb, eqb}
 use lib.ListN.{length, get_or, drop, drop_of_length-le}
 use lib.Seq.{drop-cons}
 use borrow.Author.Tests.{le-leb, lt-leb, ne_eqb}
+use Rattle.std.specs.Bool.{then_some}
 use Rattle.text.specs.Decimal.{value_of, number, not_above, within}
+use Rattle.words.specs.Numbers.{from_one}
 
 module _ (v d : ℕ) (ds : List ℕ) where
   pub no_digit_low : d < 48 → value_of v (d ∷ ds) ≡ none
@@ -178,3 +180,12 @@ module _ (top : ℕ) where
 
       pub gone_on_at : (g ≡ 0 → ⊥) → {x : ℕ} → behind v (drop i text) ≡ x → (g ≤ top) × (behind g (drop (i + 1) text) ≡ x)
       gone_on_at d w = (rw e (never_above v (get_or text i 0)), rw (add-one i) (sym (gone_on v _ g _ e d) ∙ (rw (drop-cons text i 0 here) at w)))
+
+-- A number other than 0, as the code tells it.
+pub from_one_is : (v : ℕ) → then_some (not (eqb v 0)) v ≡ from_one v
+unfolding from_one
+from_one_is zero = refl
+from_one_is (suc v) = rw (ne_eqb (suc v) 0 (λ e. omega arith))
+
+-- What one digit more comes to.
+pub ruleset one_more_digit = (no_digit_below, no_digit_above, comes_to_more, comes_to)

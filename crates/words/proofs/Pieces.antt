@@ -1,32 +1,29 @@
 -- The pieces of a text from a place on: what stands up to the next end is the first of them, the others stand behind it.
 -- By one byte at a time. Assumes nothing.
 use Prim.Native.Nat.{ℕ, suc, ◌+◌, ◌-◌, ◌≤◌, ◌<◌}
-use mathlib.Core.Bool.{Bool, true, false}
+use mathlib.Core.Bool.{Bool, true, false, not}
 use mathlib.Core.List.{List, [], ◌∷◌}
 use mathlib.Core.Path.{◌≡◌, refl, ap, ◌∙◌}
-use native.Mathlib.Numerals.{add-one}
 use native.Mathlib.Omega.{arith}
-use lib.ListN.{length, get_or, take, drop, length-drop, drop_of_length-le}
+use lib.ListN.{length, get_or, take, drop, length-drop}
 use lib.Seq.{drop-cons, drop-drop}
-use Rattle.text.specs.Text.{pieces, onto_first, up_to, nonempty, words}
+use Rattle.std.specs.List.{prefix_len}
+use Rattle.std.proofs.lemmas.List.Sums.{prefix_len-le-length}
+use Rattle.text.specs.Text.{pieces, onto_first, up_to}
+
+-- The bytes before the first end are those at the front that are none, as an iterator counts them.
+pub up_to_counted : (ends : ℕ → Bool) (text : List ℕ) → up_to ends text ≡ prefix_len (λ b. not (ends b)) text
+unfolding up_to
+up_to_counted ends [] = refl
+up_to_counted ends (b ∷ bs) = go (ends b) refl (up_to_counted ends bs)
+  where
+    go : (t : Bool) → ends b ≡ t → up_to ends bs ≡ prefix_len (λ b. not (ends b)) bs → up_to ends (b ∷ bs) ≡ prefix_len (λ b. not (ends b)) (b ∷ bs)
+    go true e h = rw (e, up_to)
+    go false e h = rw (e, up_to, h) (omega arith)
 
 module _ (ends : ℕ → Bool) where
-  up_to_here : (b : ℕ) (bs : List ℕ) → ends b ≡ true → up_to ends (b ∷ bs) ≡ 0
-  unfolding up_to
-  up_to_here b bs e = rw (e, up_to)
-
-  up_to_further : (b : ℕ) (bs : List ℕ) → ends b ≡ false → up_to ends (b ∷ bs) ≡ suc (up_to ends bs)
-  unfolding up_to
-  up_to_further b bs e = rw (e, up_to)
-
   pub up_to_length : (text : List ℕ) → up_to ends text ≤ length text
-  unfolding up_to
-  up_to_length [] = omega arith
-  up_to_length (b ∷ bs) = go (ends b) refl (up_to_length bs)
-    where
-      go : (t : Bool) → ends b ≡ t → up_to ends bs ≤ length bs → up_to ends (b ∷ bs) ≤ suc (length bs)
-      go true e h = rw (up_to_here b bs e) (omega arith)
-      go false e h = rw (up_to_further b bs e) (omega arith)
+  up_to_length text = rw up_to_counted (prefix_len-le-length _ text)
 
   first_piece : (b : ℕ) (bs : List ℕ) → pieces ends (b ∷ bs) ≡ take (up_to ends (b ∷ bs)) (b ∷ bs) ∷ pieces ends (drop (up_to ends (b ∷ bs)) bs)
   unfolding pieces up_to onto_first
@@ -43,20 +40,6 @@ module _ (ends : ℕ → Bool) where
           pieces ends (b ∷ c ∷ bs) ≡ take (up_to ends (b ∷ c ∷ bs)) (b ∷ c ∷ bs) ∷ pieces ends (drop (up_to ends (b ∷ c ∷ bs)) (c ∷ bs))
       go true e h = rw (e, pieces, up_to)
       go false e h = rw (e, pieces, up_to) (ap (onto_first b) h)
-
-  -- The next end, looked for from place i on, is at j: nothing is left, or it stands here, or it is the next end from i + 1 on.
-  pub at_the_end : (text : List ℕ) (i : ℕ) {j : ℕ} → length text ≤ i → i + up_to ends (drop i text) ≡ j → i ≡ j
-  unfolding up_to
-  at_the_end text i h e = omega (arith, ap (up_to ends) (drop_of_length-le text h))
-
-  pub found_here : (text : List ℕ) (i : ℕ) {j : ℕ} → i < length text → ends (get_or text i 0) ≡ true → i + up_to ends (drop i text) ≡ j → i ≡ j
-  found_here text i h t e = omega (arith, ap (up_to ends) (drop-cons text i 0 h), up_to_here (get_or text i 0) (drop (suc i) text) t)
-
-  pub found_further :
-      (text : List ℕ) (i : ℕ) {j : ℕ} → i < length text → ends (get_or text i 0) ≡ false → i + up_to ends (drop i text) ≡ j →
-      i + 1 + up_to ends (drop (i + 1) text) ≡ j
-  found_further text i h t e =
-      rw add-one (omega (arith, ap (up_to ends) (drop-cons text i 0 h), up_to_further (get_or text i 0) (drop (suc i) text) t))
 
   -- From a place on: the bytes up to the next end, and the pieces behind it.
   module _ (text : List ℕ) (at end : ℕ) (h : at < length text) (next : end ≡ at + up_to ends (drop at text)) where
@@ -79,18 +62,3 @@ module _ (ends : ℕ → Bool) where
 
         behind : drop e₀ (drop (suc at) text) ≡ drop (end + 1) text
         behind = drop-drop e₀ (suc at) text ∙ ap (λ (k : ℕ). drop k text) place
-
-    -- Between two ends that stand side by side there is no word.
-    pub no_word_at : end ≡ at → words ends (drop at text) ≡ words ends (drop (end + 1) text)
-    unfolding words nonempty
-    no_word_at e = ap nonempty piece_at ∙ ap (λ (k : ℕ). nonempty (take k (drop at text) ∷ pieces ends (drop (end + 1) text))) none
-      where
-        none : end - at ≡ 0
-        none = omega arith
-
-    pub word_at : at < end → words ends (drop at text) ≡ take (end - at) (drop at text) ∷ words ends (drop (end + 1) text)
-    unfolding words nonempty
-    word_at longer = ap nonempty piece_at ∙ rw (drop-cons text at 0 h, some) refl
-      where
-        some : end - at ≡ suc (end - at - 1)
-        some = omega arith

@@ -1,9 +1,12 @@
 -- What a number that the code has read is on paper.
-use Rattle.std.specs.Prelude.{ℕ}
+use Rattle.std.specs.Prelude.{ℕ, zero, suc, Option as Maybe, Some, None}
 use Rattle.std.proofs.Math.Option.{Option, none, some}
-use Rattle.words.specs.declared.Number.{Number}
-use Rattle.words.specs.declared.Number.TheVariants.{Is, Missing}
 
-abbrev pub told : Number → Option ℕ
-told (Is v) = some v
-told Missing = none
+abbrev pub told : Maybe ℕ → Option ℕ
+told (Some v) = some v
+told None = none
+
+-- A number from 1 on, or none for 0.
+unfoldable pub from_one : ℕ → Maybe ℕ
+from_one zero = None
+from_one (suc v) = Some (suc v)

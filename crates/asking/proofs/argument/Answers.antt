@@ -7,21 +7,20 @@ use Rattle.asking.proofs.HandedOut.{found_inside, found_bytes, found_start, refu
 use Rattle.asking.proofs.argument.Goals as goal
 
 pub overflow_add-end : goal.overflow_add-end
-overflow_add-end c = omega (arith, found_inside _ _ _ _ c.argument_reply-reply.ensures c.in-Found.is)
+overflow_add-end c = omega (arith, found_inside _ _ _ _ c.in-Ok.ensures)
 
-pub slice_bounds-result-end : goal.slice_bounds-result-end
-slice_bounds-result-end c = omega (arith, found_inside _ _ _ _ c.argument_reply-reply.ensures c.in-Found.is)
+pub slice_bounds-result-end-2 : goal.slice_bounds-result-end-2
+slice_bounds-result-end-2 c = omega (arith, found_inside _ _ _ _ c.in-Ok.ensures)
 
-pub returns-in-Found : goal.returns-in-Found
-returns-in-Found c =
-    let means = c.argument_reply-reply.ensures in
-    let is = c.in-Found.is in
-    record { bytes = found_bytes _ _ _ _ means is; place = (refl, omega (arith, found_start _ _ _ _ means is)) }
+pub returns : goal.returns
+returns c =
+    let means = c.in-Ok.ensures in
+    record { bytes = found_bytes _ _ _ _ means; place = (refl, omega (arith, found_start _ _ _ _ means)) }
 
 pub returns-in_default : goal.returns-in_default
 unfolding part_bytes
 returns-in_default c =
-    let none = refused_part _ _ _ _ c.argument_reply-reply.ensures c.in_default.is in
+    let none = refused_part _ _ _ _ c.in_default.ensures in
     record {
       bytes = ap (λ (p : Part). part_bytes p c.args.record.now) (sym none);
       place = (refl, omega (arith, ap (λ (p : Part). p.start) none));

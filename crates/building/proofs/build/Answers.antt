@@ -13,8 +13,8 @@ use Rattle.building.proofs.build.Goals as goal
 
 pub returns : goal.returns
 returns c r σ h k =
-    let place = c.args.place in
-    let bytes = c.args.bytes.now in
+    let place = c.args.place.now in
+    let bytes = c.args.terms.now.bytes.now in
     let out = c.args.out.now in
     let front = c.copy.new.out in
     let behind = c.lay-end.new.out in

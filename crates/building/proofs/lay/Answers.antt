@@ -1,105 +1,95 @@
 -- The right side is laid into the buffer under the match, node by node: what lies there and what is ahead are the whole. Assumes nothing.
-use Prim.Native.Nat.{ℕ, ◌+◌, ◌-◌, ◌<◌, ◌≤◌}
-use mathlib.Core.List.{List}
-use mathlib.Core.Path.{◌≡◌, ap, ◌∙◌}
+use Prim.Native.Nat.{ℕ, ◌+◌, ◌-◌}
+use mathlib.Core.List.{List, [], ◌∷◌}
+use mathlib.Core.Path.{ap, ◌∙◌}
 use native.Mathlib.Omega.{arith}
 use borrow.Rule.Slice.PartMut.{put_mid}
-use lib.ListN.{length, get_or, length-set}
+use lib.ListN.{length, get_or}
 use Rattle.term.specs.Term.{Term}
-use Rattle.term.specs.Replacement.{Replacement, Occurs, replace}
+use Rattle.term.specs.Replacement.{Replacement}
 use Rattle.term.specs.Prefix.{prefix}
 use Rattle.term.specs.At.{At}
-use Rattle.term.proofs.At.{at_root_lem}
 use Rattle.building.specs.declared.Match.{Match}
-use Rattle.building.specs.Right.{start_of, TermAt, Held, RightAt}
-use Rattle.building.proofs.RightSide.{node, variable_ahead, found_at}
-use Rattle.building.proofs.LaidDown.{Laying, nothing_laid, symbol_room, symbol_laid, variable_room, copied_into, variable_laid, all_laid, laying_as}
+use Rattle.building.specs.Right.{Held, RightAt}
+use Rattle.building.proofs.RightSide.{symbol_ahead, variable_ahead, right_there, node_stands, is_symbol, is_variable, small, bound_there, term_there, term_found}
+use Rattle.building.proofs.LaidDown.{Laying, nothing_laid, copied_into, node_copied, text_room, text_laid, all_laid, laying_as}
 use Rattle.building.proofs.lay.Goals as goal
-use Rattle.building.proofs.lay.Goals.{then-book-right-eq3, else-book-right-eq3}
+use Rattle.building.proofs.lay.Goals.{then-is_some, else-is_some, Joined-is_some}
 
--- In a turn: the right side that stands there, and the room that is left for it.
+-- The right side that stands there, as far as it is laid.
 module _
-    {book bytes arities : List ℕ} {table : Match} {u d right at : ℕ} {before after : List ℕ} {end : ℕ}
-    (here : RightAt book bytes arities table u d)
-    (so_far : (r : Term) (σ : Replacement) → At book arities u r d → Held bytes arities table r σ → Laying book arities r σ d right at before after end)
-    (p : right < d) where
-  abbrev x : ℕ
-  x = get_or book (right + 1) 0
-
+    {book bytes arities : List ℕ} {table : Match} {u d right at : ℕ} {before after : List ℕ} {end : ℕ} (here : RightAt book bytes arities table u d)
+    (so_far : (r : Term) (σ : Replacement) → At book arities u r d → Held bytes arities table r σ → Laying book arities r σ d right at before after end) where
   laying : Laying book arities here.right here.replacement d right at before after end
   laying = so_far here.right here.replacement here.stands here.held
-
-  right_there : right + 1 < length book
-  right_there = at_root_lem (node laying.ahead p).first_stands
-
-  end_there :
-      get_or book right 0 ≡ 3 →
-      ((r : Term) (σ : Replacement) → At book arities u r d → Held bytes arities table r σ → at + length (prefix (replace σ r)) ≤ length before) →
-      end + 1 < length after
-  end_there k room = symbol_room laying p k (room here.right here.replacement here.stands here.held)
-
-  module _ (k : get_or book right 0 ≡ 3 → ⊥) where
-    occurs : Occurs x here.right
-    occurs = (variable_ahead laying.ahead p k).occurs
-
-    small : x < 16
-    small = here.held.small x occurs
-
-    term_at : TermAt bytes arities (start_of table x) (here.replacement x)
-    term_at = here.held.terms x occurs
 
 pub loop-right-init : goal.loop-right-init
 loop-right-init c r σ h k = nothing_laid σ _ _ h
 
+pub symbol_at-requires : goal.symbol_at-requires
+symbol_at-requires c = node_stands (laying c.requires.right_at c.loop-right.invariant).ahead c.loop-right-test.true
+
+pub overflow_add-right : goal.overflow_add-right
+overflow_add-right c = omega (arith, right_there (laying c.requires.right_at c.loop-right.invariant).ahead c.loop-right-test.true)
+
 pub bounds-book-right : goal.bounds-book-right
-bounds-book-right c = omega (arith, right_there c.requires.right_at c.loop-right.invariant c.loop-right-test.true)
+bounds-book-right c = right_there (laying c.requires.right_at c.loop-right.invariant).ahead c.loop-right-test.true
 
-pub bounds-out-end : goal.bounds-out-end
-bounds-out-end c =
-    omega (arith, end_there c.requires.right_at c.loop-right.invariant c.loop-right-test.true c.if-book-right-eq3.true c.requires.under_match)
+pub bounds-table-wide : goal.bounds-table-wide
+bounds-table-wide c =
+    let ahead = (laying c.requires.right_at c.loop-right.invariant).ahead in
+    small ahead c.loop-right-test.true c.requires.right_at.held c.symbol_at.ensures c.if-is_some.ensures c.wide.ensures
 
-pub bounds-book-right-then-book-right-eq3 : goal.bounds-book-right-then-book-right-eq3
-bounds-book-right-then-book-right-eq3 c = right_there c.requires.right_at c.loop-right.invariant c.loop-right-test.true
+pub unwrap-start-requires : goal.unwrap-start-requires
+unwrap-start-requires c =
+    let ahead = (laying c.requires.right_at c.loop-right.invariant).ahead in
+    bound_there ahead c.loop-right-test.true c.requires.right_at.held c.symbol_at.ensures c.if-is_some.ensures c.wide.ensures
 
-pub bounds-out-end-then-book-right-eq3 : goal.bounds-out-end-then-book-right-eq3
-bounds-out-end-then-book-right-eq3 c =
-    simp length-set
-    (end_there c.requires.right_at c.loop-right.invariant c.loop-right-test.true c.if-book-right-eq3.true c.requires.under_match)
+pub end_of-requires : goal.end_of-requires
+end_of-requires c =
+    let ahead = (laying c.requires.right_at c.loop-right.invariant).ahead in
+    term_there ahead c.loop-right-test.true c.requires.right_at.held c.symbol_at.ensures c.if-is_some.ensures c.wide.ensures c.unwrap-start.ensures
 
-pub bounds-book-right-else-book-right-eq3 : goal.bounds-book-right-else-book-right-eq3
-bounds-book-right-else-book-right-eq3 c = right_there c.requires.right_at c.loop-right.invariant c.loop-right-test.true
-
-pub bounds-table-x : goal.bounds-table-x
-bounds-table-x c =
-    omega (arith, c.wide-x.ensures, small c.requires.right_at c.loop-right.invariant c.loop-right-test.true c.if-book-right-eq3.false)
-
-pub end_of-behind-requires : goal.end_of-behind-requires
-end_of-behind-requires c =
-    let there = term_at c.requires.right_at c.loop-right.invariant c.loop-right-test.true c.if-book-right-eq3.false in
-    rw c.wide-x.ensures (record { term = _; behind = there.0; stands = there.1 })
-
-pub overflow_add-right-in-loop-right : goal.overflow_add-right-in-loop-right
-overflow_add-right-in-loop-right c = omega (arith, right_there c.requires.right_at c.loop-right.invariant c.loop-right-test.true)
-
-pub loop-right-preserved : goal.loop-right-preserved
-loop-right-preserved c r σ h k =
+-- A node more is laid.
+node_laid :
+    (c : Joined-is_some) → (r : Term) (σ : Replacement) → At c.args.book.now c.args.terms.now.arities c.args.right_at r c.args.right_end →
+    Held c.args.terms.now.bytes.now c.args.terms.now.arities c.args.table.now r σ →
+    Laying c.args.book.now c.args.terms.now.arities r σ c.args.right_end (c.loop-right.right + 2) c.args.at c.args.out.now c.if-is_some.out c.if-is_some.end
+node_laid c r σ h k =
     let so_far = c.loop-right.invariant r σ h k in
+    let p = c.loop-right-test.true in
+    let told = c.symbol_at.ensures in
     let out = c.loop-right.out in
     let end = c.loop-right.end in
-    elim c.if-book-right-eq3.branch [
-      | then-book-right-eq3 w ↦
-          laying_as w.out-is w.end-is
-          (symbol_laid so_far c.loop-right-test.true w.if-book-right-eq3.true
-          (symbol_room so_far c.loop-right-test.true w.if-book-right-eq3.true (c.requires.under_match r σ h k)))
-      | else-book-right-eq3 w ↦
-          let variable = variable_ahead so_far.ahead c.loop-right-test.true w.if-book-right-eq3.false in
-          let found = found_at _ _ (k.terms _ variable.occurs) (ap (start_of c.args.table) w.wide-x.ensures) w.end_of-behind.ensures in
-          let fits = variable_room so_far c.loop-right-test.true w.if-book-right-eq3.false found (c.requires.under_match r σ h k) in
+    let room = c.requires.under_match r σ h k in
+    elim c.if-is_some.branch [
+      | then-is_some w ↦
+          let kind = is_symbol so_far.ahead p told w.if-is_some.ensures in
+          let symbol = symbol_ahead so_far.ahead p kind in
+          let text = 3 ∷ get_or c.args.book.now (c.loop-right.right + 1) 0 ∷ [] in
+          let fits = text_room so_far text symbol.parts symbol.on room in
+          let copied = node_copied end out c.args.book.now c.loop-right.right (right_there so_far.ahead p) fits in
           laying_as
           (w.out-is ∙ ap (λ (ys : List ℕ). put_mid end (length out - end) out ys) w.copy-end.ensures.kept)
           (w.end-is ∙ ap (λ (n : ℕ). end + n) w.copy-end.ensures.laid)
-          (variable_laid so_far c.loop-right-test.true w.if-book-right-eq3.false found fits _ (copied_into end out found fits))
+          (text_laid so_far text symbol.parts symbol.on _ (rw (← kind) copied) fits)
+      | else-is_some w ↦
+          let variable = variable_ahead so_far.ahead p (is_variable so_far.ahead p told w.if-is_some.ensures) in
+          let found = term_found so_far.ahead p k told w.if-is_some.ensures w.wide.ensures w.unwrap-start.ensures w.end_of.ensures in
+          let text = prefix (σ (get_or c.args.book.now (c.loop-right.right + 1) 0)) in
+          let fits = text_room so_far text variable.parts variable.on room in
+          laying_as
+          (w.out-is ∙ ap (λ (ys : List ℕ). put_mid end (length out - end) out ys) w.copy-end-else-is_some.ensures.kept)
+          (w.end-is ∙ ap (λ (n : ℕ). end + n) w.copy-end-else-is_some.ensures.laid)
+          (text_laid so_far text variable.parts variable.on _ (copied_into end out found fits) fits)
     ]
+
+pub loop-right-preserved : goal.loop-right-preserved
+loop-right-preserved c = node_laid (goal.at.loop-right-preserved c).Joined-is_some
 
 pub returns : goal.returns
 returns c r σ h k = all_laid (c.loop-right.invariant r σ h k) c.loop-right-test.false
+
+pub returns-after-is_some : goal.returns-after-is_some
+returns-after-is_some c r σ h k =
+    all_laid (node_laid (goal.at.returns-after-is_some c).Joined-is_some r σ h k) (omega arith)

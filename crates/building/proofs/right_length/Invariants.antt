@@ -1,5 +1,4 @@
 -- The loop's invariant: the count and what is ahead are the whole. The measure is what is left of the right side.
-use Prim.Native.Nat.{◌-◌}
 use Rattle.term.specs.Term.{Term}
 use Rattle.term.specs.Replacement.{Replacement}
 use Rattle.term.specs.At.{At}
@@ -9,7 +8,4 @@ use Rattle.building.proofs.right_length.Given as goal
 
 abbrev pub invariant-loop-right : goal.invariant-loop-right
 invariant-loop-right l =
-    (r : Term) (σ : Replacement) → At l.book l.arities l.right_at r l.right_end → Held l.bytes l.arities l.table r σ → Counted l.book l.arities r σ l.right_end l.right l.total
-
-abbrev pub decreases-loop-right : goal.decreases-loop-right
-decreases-loop-right l = l.right_end - l.right
+    (r : Term) (σ : Replacement) → At l.book l.terms.arities l.right_at r l.right_end → Held l.terms.bytes.now l.terms.arities l.table r σ → Counted l.book l.terms.arities r σ l.right_end l.right l.total

@@ -1,29 +1,24 @@
--- `items::read_item` meets its contract: the closing 0, no byte at all, a minus, or none.
-use mathlib.Core.Path.{sym, ◌∙◌}
+-- `items::read_item` meets its contract: the closing 0, a minus, or none.
+use Rattle.std.proofs.Common.{◌≡◌, ◌<◌, length, get_or, arith}
+use mathlib.Core.Path.{refl, sym, ◌∙◌}
 use Rattle.clauses.specs.Cnf.{is, is_not}
-use Rattle.items.proofs.OneItem.{closing_word, empty_word, minus, plain, nothing_read, literal_read}
+use Rattle.items.specs.declared.Item.TheVariants.{Is, IsNot}
+use Rattle.items.proofs.OneItem.{closing_word, minus, plain, read_signed}
 use Rattle.items.proofs.read_item.Goals as goal
+use Rattle.items.proofs.read_item.Goals.{in_default-via-then-word-lt1, in_default-via-else-word-lt1+in_default-1}
 
 pub returns-then-same : goal.returns-then-same
 returns-then-same c = closing_word _ _ (sym c.same.ensures ∙ c.if-same.true)
 
-pub returns-then-word-eq0 : goal.returns-then-word-eq0
-returns-then-word-eq0 c = empty_word _ _ c.if-word-eq0.true
+pub returns-in-45 : goal.returns-in-45
+returns-in-45 c =
+    read_signed _ is_not (λ v. IsNot v) (λ v. refl) _ _ _ c.number_within.ensures c.map.ensures.cases
+    ∙ sym (minus _ _ (omega arith) (omega arith))
 
-pub returns-then-v-eq0 : goal.returns-then-v-eq0
-returns-then-v-eq0 c =
-    nothing_read _ is_not _ (minus _ _ c.if-word-eq0.false c.if-word-eq45.true) c.number_within-v.ensures c.if-v-eq0.true
-
-pub returns-else-v-eq0 : goal.returns-else-v-eq0
-returns-else-v-eq0 c =
-    literal_read _ is_not _ (minus _ _ c.if-word-eq0.false c.if-word-eq45.true) c.number_within-v.ensures c.if-v-eq0.false
-
-pub returns-then-v-eq0-2 : goal.returns-then-v-eq0-2
-returns-then-v-eq0-2 c =
-    nothing_read _ is _ (plain _ _ (sym c.same.ensures ∙ c.if-same.false) c.if-word-eq0.false c.if-word-eq45.false)
-    c.number_within-v-2.ensures c.if-v-eq0-2.true
-
-pub returns-else-v-eq0-2 : goal.returns-else-v-eq0-2
-returns-else-v-eq0-2 c =
-    literal_read _ is _ (plain _ _ (sym c.same.ensures ∙ c.if-same.false) c.if-word-eq0.false c.if-word-eq45.false)
-    c.number_within-v-2.ensures c.if-v-eq0-2.false
+pub returns-in_default : goal.returns-in_default
+returns-in_default c =
+    read_signed _ is (λ v. Is v) (λ v. refl) _ _ _ c.number_within-in_default.ensures c.map-in_default.ensures.cases
+    ∙ sym (plain _ _ (sym c.same.ensures ∙ c.if-same.false) no_minus)
+  where
+    no_minus : 0 < length c.args.word.now → get_or c.args.word.now 0 0 ≡ 45 → ⊥
+    no_minus some e = elim c.in_default.branch [ in_default-via-then-word-lt1 w ↦ grind arith | in_default-via-else-word-lt1+in_default-1 w ↦ grind arith ]

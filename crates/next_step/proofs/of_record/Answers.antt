@@ -4,19 +4,27 @@ use mathlib.Core.List.{List}
 use mathlib.Core.Option.{Option}
 use mathlib.Core.Path.{◌≡◌, refl, sym, ap, subst, ◌∙◌}
 use native.Mathlib.Omega.{arith}
-use borrow.Author.Tests.{not-true, not-false}
+use borrow.Author.Rules.{rules}
 use lib.ListN.{length, take}
 use lib.Seq.{length-take-le}
-use Rattle.reply.specs.Reply.{Reply, given, refused}
-use Rattle.reply.specs.Refusals.{numbered}
-use Rattle.reply.specs.declared.Refusal.{Refusal as Named}
+use Rattle.std.specs.Prelude.{Option as Maybe, Some, None}
+use Rattle.std.specs.Option.{MatchOption, IsSomeAnd}
+use Rattle.std.proofs.Common.{Err}
+use Rattle.std.proofs.lemmas.Result.{err_from_is_err_and}
+use Rattle.reply.specs.Reply.{given}
+use Rattle.reply.specs.Replied.{replied_as}
+use Rattle.term.specs.Term.{Term}
 use Rattle.term.specs.At.{At}
 use Rattle.term.proofs.At.{at_within}
+use Rattle.book.specs.Book.{Rule}
 use Rattle.record.proofs.Stands.{WholeTerm, whole_stands}
-use Rattle.steps.specs.NextStep.{Taken}
+use Rattle.steps.specs.NextStep.{Taken, taken_in}
 use Rattle.steps.proofs.Questions.{record_faulty, record_whole, at_beginning}
 use Rattle.steps.proofs.NextAsked.{malformed, found}
-use Rattle.next_step.specs.NextMeaning.{next_meaning}
+use Rattle.building.specs.declared.Place.{Place}
+use Rattle.matching.specs.FirstPlace.{FirstPlace}
+use Rattle.next_step.specs.NextMeaning.{taken, next_meaning}
+use Rattle.next_step.specs.declared.Next.{Next}
 use Rattle.next_step.proofs.of_record.Goals as goal
 
 -- The record's term, and its bytes alone.
@@ -30,36 +38,37 @@ module _ {text arities : List ℕ} {symbols nodes : ℕ} (its : WholeTerm text s
   alone : At (take (2 * nodes) text) arities 0 its.term (length (take (2 * nodes) text))
   alone = subst (λ (n : ℕ). At (take (2 * nodes) text) arities 0 its.term n) (sym as_long) (at_beginning text its.stands refl)
 
+-- The rule and the place that the search found are the step's.
+place_taken :
+    (bytes arities : List ℕ) (rules : List Rule) (t : Term) (place : Maybe Place) (next : Maybe Next) →
+    MatchOption place (next ≡ None) (λ p. IsSomeAnd next (λ n. n ≡ record { rule = p.fit.rule; place = p.at })) →
+    FirstPlace bytes arities rules t place → taken next ≡ taken_in rules 0 t
+unfolding FirstPlace taken
+place_taken bytes arities rules t None next no_next nowhere = ap taken no_next ∙ sym nowhere
+place_taken bytes arities rules t (Some place) None no_next there = absurd no_next
+place_taken bytes arities rules t (Some place) (Some next) is there = ap (λ (n : Next). taken (Some n)) is ∙ sym there.is_taken
+
+pub returns-in_err-nodes : goal.returns-in_err-nodes
+unfolding next_meaning replied_as
+returns-in_err-nodes c =
+    let p = err_from_is_err_and c.from_residual.result c.from_residual.ensures.1 in
+    ap next_meaning (p.1 ∙ ap Err p.2) ∙ sym (malformed _ _ (record_faulty _ _ _ _ c.in_err-nodes.ensures.means))
+
 pub overflow_mul-nodes : goal.overflow_mul-nodes
-overflow_mul-nodes c = omega (arith, small (whole_stands _ _ _ _ c.in-Whole.ensures.settled))
+overflow_mul-nodes c = omega (arith, small (whole_stands _ _ _ _ c.in_ok-nodes.ensures.settled))
 
 pub slice_bounds-first_place-end : goal.slice_bounds-first_place-end
-slice_bounds-first_place-end c = sym (as_long (whole_stands _ _ _ _ c.in-Whole.ensures.settled))
+slice_bounds-first_place-end c = sym (as_long (whole_stands _ _ _ _ c.in_ok-nodes.ensures.settled))
 
-pub first_place-first-requires-clause-whole : goal.first_place-first-requires-clause-whole
-first_place-first-requires-clause-whole c =
-    let its = whole_stands _ _ _ _ c.in-Whole.ensures.settled in
+pub first_place-first-requires : goal.first_place-first-requires
+first_place-first-requires c =
+    let its = whole_stands _ _ _ _ c.in_ok-nodes.ensures.settled in
     record { term = its.term; stands = alone its }
 
--- What the search found.
-pub returns-then-not-first : goal.returns-then-not-first
-unfolding next_meaning
-returns-then-not-first c =
-    let its = whole_stands _ _ _ _ c.in-Whole.ensures.settled in
-    let first = c.first_place-first in
-    let nowhere = (first.ensures its.term (alone its)).nowhere (not-true first.result.fit.table.fits c.if-not-first.true) in
-    sym (found _ _ (record_whole _ _ _ its.term its.is) ∙ ap {B = Reply (Option Taken)} (λ (o : Option Taken). given o) nowhere.0)
-
-pub returns-in-Faulty : goal.returns-in-Faulty
-unfolding next_meaning
-returns-in-Faulty c =
-    let faulty = record_faulty _ _ _ _ c.in-Faulty.fault c.read_record-found.ensures.means c.in-Faulty.is in
-    ap {B = Reply (Option Taken)} (λ (why : Named). refused (numbered why)) c.record_refusal.ensures ∙ sym (malformed _ _ faulty)
-
-pub returns-else-not-first : goal.returns-else-not-first
-unfolding next_meaning
-returns-else-not-first c =
-    let its = whole_stands _ _ _ _ c.in-Whole.ensures.settled in
-    let first = c.first_place-first in
-    let there = (first.ensures its.term (alone its)).there (not-false first.result.fit.table.fits c.if-not-first.false) in
-    sym (found _ _ (record_whole _ _ _ its.term its.is) ∙ ap {B = Reply (Option Taken)} (λ (o : Option Taken). given o) there.is_taken)
+pub returns : goal.returns
+unfolding next_meaning replied_as
+returns c =
+    let its = whole_stands _ _ _ _ c.in_ok-nodes.ensures.settled in
+    let first = c.first_place-first.ensures its.term (alone its) in
+    ap (λ (o : Option Taken). given o) (place_taken _ _ _ _ c.first_place-first.result c.map.result (search rules) first)
+    ∙ sym (found _ _ (record_whole _ _ _ its.term its.is))

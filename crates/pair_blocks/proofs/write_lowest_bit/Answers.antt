@@ -9,4 +9,4 @@ pub returns : goal.returns
 unfolding lowest_bit meant
 returns c =
     lays_as (clauses_text _ _ _)
-    (lays_then (lays_then c.write_clause_of_two-at.ensures c.write_clause_of_two-at-2.ensures) c.write_clause_of_three.ensures)
+    (lays_then (lays_then c.write_clause-at.ensures c.write_clause-at-2.ensures) c.write_clause.ensures)

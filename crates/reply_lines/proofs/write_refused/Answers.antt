@@ -16,7 +16,7 @@ in_two n p = simp append_assoc refl
 pub returns : goal.returns
 unfolding ascii
 returns c =
-    let told = c.numbered-told in
+    let told = c.from-told in
     lays_as
     (in_two told.result.number told.result.place
     ∙ ap (λ (t : NumberAt). refused_line (record { number = t.number; place = t.place })) told.ensures)

@@ -1,26 +1,32 @@
 -- The name of the node that the two bytes tell. Assumes nothing.
-use mathlib.Core.Path.{sym, ap, ◌∙◌}
+use Prim.Native.Nat.{ℕ}
+use mathlib.Core.Bool.{Bool, true, false}
+use mathlib.Core.Path.{◌≡◌, sym, ap, ap₂, ◌∙◌}
+use Rattle.std.specs.Prelude.{eqb}
 use Rattle.text.specs.Text.{ascii}
 use Rattle.text.proofs.Laying.{lays_as}
-use Rattle.term.proofs.Nodes.{symbol_node, variable_node}
 use Rattle.number_text.specs.Numbers.{counted}
+use Rattle.term.specs.Prefix.{symbolic, variable, node_of}
 use Rattle.term_text.specs.TermText.{name_text}
 use Rattle.term_text.proofs.write_name.Goals as goal
+use Rattle.term_text.proofs.write_name.Goals.{then-is_symbol, else-is_symbol}
 
-pub returns-then-kind-eq3 : goal.returns-then-kind-eq3
-unfolding name_text ascii
-returns-then-kind-eq3 c =
-    let start = c in
-    lays_as
-    (ap (counted (ascii "f")) c.wide.ensures
-    ∙ sym (ap name_text (symbol_node start.args.kind start.args.body c.if-kind-eq3.true)))
-    c.write_counted.ensures
+symbol_name : (k b : ℕ) → eqb k 3 ≡ true → counted (ascii "f") b ≡ name_text (node_of k b)
+unfolding name_text node_of
+symbol_name k b e = ap (λ (t : Bool). name_text (elim t [ true ↦ symbolic b | false ↦ variable b ])) (sym e)
+
+variable_name : (k b : ℕ) → eqb k 3 ≡ false → counted (ascii "x") b ≡ name_text (node_of k b)
+unfolding name_text node_of
+variable_name k b e = ap (λ (t : Bool). name_text (elim t [ true ↦ symbolic b | false ↦ variable b ])) (sym e)
 
 pub returns : goal.returns
-unfolding name_text ascii
+unfolding ascii
 returns c =
-    let start = c in
-    lays_as
-    (ap (counted (ascii "x")) c.wide-2.ensures
-    ∙ sym (ap name_text (variable_node start.args.kind start.args.body c.if-kind-eq3.false)))
-    c.write_counted-2.ensures
+    elim c.if-is_symbol.branch [
+      | then-is_symbol w ↦
+          let e = symbol_name c.args.kind c.args.body (sym c.is_symbol.ensures ∙ w.if-is_symbol.true) in
+          lays_as (ap₂ (λ a b. counted a b) (ap (λ a. a.now) w.word-is) c.wide.ensures ∙ e) c.write_counted.ensures
+      | else-is_symbol w ↦
+          let e = variable_name c.args.kind c.args.body (sym c.is_symbol.ensures ∙ w.if-is_symbol.false) in
+          lays_as (ap₂ (λ a b. counted a b) (ap (λ a. a.now) w.word-is) c.wide.ensures ∙ e) c.write_counted.ensures
+    ]

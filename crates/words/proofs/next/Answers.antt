@@ -1,13 +1,28 @@
--- `words::next` meets its contract. What stands before the next end is found from every place on the way.
-use borrow.Author.Tests.{eq-eqb, ne_eqb}
-use Rattle.words.proofs.Pieces.{at_the_end, found_here, found_further}
+-- `words::next` meets its contract: the bytes before the next end are those that the chain counts.
+use Rattle.std.proofs.Common.{rules, ◌+◌}
+use mathlib.Core.Bool.{not}
+use mathlib.Core.Path.{sym, ap, ◌∙◌}
+use lib.Dec.{eqb}
+use lib.ListN.{drop}
+use borrow.Author.Tests.{tests}
+use Rattle.std.proofs.lemmas.Iterator.{YieldsList-from_slice}
+use Rattle.std.proofs.lemmas.Iterator.Adapters.{YieldsList-from_skip}
+use Rattle.std.proofs.lemmas.Iterator.Consumers.{YieldsList-at, count_from_yields_List}
+use Rattle.std.proofs.lemmas.Iterator.Search.{YieldsList-from_take_while}
+use Rattle.std.proofs.lemmas.List.Folds.{length-prefix_len}
+use Rattle.words.proofs.Pieces.{up_to_counted}
 use Rattle.words.proofs.next.Goals as goal
 
-pub returns-then-text-i : goal.returns-then-text-i
-returns-then-text-i c = found_here _ _ _ c.loop-i-test.true (eq-eqb _ _ c.if-text-i.true) c.loop-i.invariant
-
-pub loop-i-preserved : goal.loop-i-preserved
-loop-i-preserved c = found_further _ _ _ c.loop-i-test.true (ne_eqb _ _ c.if-text-i.false) c.loop-i.invariant
-
 pub returns : goal.returns
-returns c = at_the_end _ _ _ c.loop-i-test.false c.loop-i.invariant
+returns c =
+    ap (λ n. c.args.at + n) (
+    count_from_yields_List _ _ c.count.ensures.ran (
+    YieldsList-from_take_while _ (λ b. not (eqb b c.args.end)) (
+    YieldsList-at c.take_while.ensures.source (
+    YieldsList-from_skip c.args.at (YieldsList-at c.skip.ensures.source (YieldsList-from_slice c.args.text.now c.iter.ensures.rest)) c.skip.ensures.count
+    )
+    ) c.take_while.ensures.closure c.take_while.ensures.done (λ x b q k. search (rules, tests))
+    )
+    ∙ length-prefix_len (λ b. not (eqb b c.args.end)) (drop c.args.at c.args.text.now)
+    ∙ sym (up_to_counted _ _)
+    )

@@ -1,10 +1,8 @@
--- The bits so far are summed, and the weight is the next bit's.
-use Prim.Native.Nat.{◌-◌}
-use Rattle.answer.proofs.RankSums.{Summed}
+-- The bits so far are summed.
+use mathlib.Core.Path.{◌≡◌}
+use Rattle.clauses.specs.Numbering.{rank_below}
+use Rattle.answer_lines.specs.Marks.{assigned}
 use Rattle.answer.proofs.ranks.rank_of.Given as goal
 
 abbrev pub invariant-loop-b : goal.invariant-loop-b
-invariant-loop-b l = Summed l.bits l.f l.table l.rank l.weight l.b
-
-abbrev pub decreases-loop-b : goal.decreases-loop-b
-decreases-loop-b l = l.bits - l.b
+invariant-loop-b l = l.rank ≡ rank_below l.bits (assigned l.table) l.f l.b

@@ -1,10 +1,10 @@
 -- `answer::ranks::ranks_of` meets its contract. The ranks of the symbols so far stand in the table.
-use native.Mathlib.Omega.{arith}
+use Rattle.std.proofs.Common.{arith}
 use Rattle.answer.proofs.PaddedRanks.{no_ranks, next_rank}
 use Rattle.answer.proofs.ranks.ranks_of.Goals as goal
 
 pub loop-f-init : goal.loop-f-init
-loop-f-init c = (omega arith, no_ranks _ _)
+loop-f-init c = no_ranks _ _
 
 pub loop-f-preserved : goal.loop-f-preserved
-loop-f-preserved c = (omega arith, rw c.loop-f.invariant.1 (next_rank _ _ _ _ (omega arith) c.rank_of.ensures))
+loop-f-preserved c = rw c.loop-f.invariant (next_rank _ _ _ _ (omega arith) c.rank_of.ensures)

@@ -1,12 +1,8 @@
 -- The ranks of the symbols so far stand in the table.
-use Prim.Native.Nat.{◌-◌, ◌≤◌}
 use mathlib.Core.Path.{◌≡◌}
 use Rattle.answer_lines.specs.Marks.{assigned}
 use Rattle.answer.specs.PaddedRanks.{padded_ranks}
 use Rattle.answer.proofs.ranks.ranks_of.Given as goal
 
 abbrev pub invariant-loop-f : goal.invariant-loop-f
-invariant-loop-f l = (l.f ≤ l.symbols) × (l.ranks ≡ padded_ranks l.f l.bits (assigned l.table))
-
-abbrev pub decreases-loop-f : goal.decreases-loop-f
-decreases-loop-f l = l.symbols - l.f
+invariant-loop-f l = l.ranks ≡ padded_ranks l.f l.bits (assigned l.table)

@@ -10,5 +10,5 @@ use Rattle.blocks.proofs.header.write_header.Goals as goal
 pub returns : goal.returns
 unfolding header counts_text ascii
 returns c =
-    lays_as (ap₂ (λ (v m : ℕ). ascii "p cnf " ++ counts_text v m) (c.variables-v.ensures _ c.requires) c.clause_count-m.ensures)
+    lays_as (ap₂ (λ (v m : ℕ). ascii "p cnf " ++ counts_text v m) (c.variables-v.ensures _ c.args.book.now.read) c.clause_count-m.ensures)
     (lays_then c.write_text-at.ensures c.write_counts.ensures)

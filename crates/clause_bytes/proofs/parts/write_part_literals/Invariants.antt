@@ -1,20 +1,10 @@
 -- The loop has laid the parts that it passed.
-use Prim.Native.Nat.{ℕ, ◌-◌, ◌≤◌}
-use mathlib.Core.List.{List, flat_map}
-use mathlib.Core.Path.{◌≡◌}
-use lib.ListN.{length, take}
-use Rattle.clauses.specs.Cnf.{Literal}
+use Rattle.std.proofs.Common.{take}
+use mathlib.Core.List.{flat_map}
 use Rattle.clauses.specs.File.{literal_bytes}
 use Rattle.text.specs.Laying.{Lays}
 use Rattle.clause_bytes.specs.Meaning.{meant, against}
 use Rattle.clause_bytes.proofs.parts.write_part_literals.Given as goal
 
-abbrev pub part_text : Literal → ℕ → List ℕ
-part_text whole part = literal_bytes (against whole part)
-
-abbrev pub invariant-loop-i : goal.invariant-loop-i
-invariant-loop-i l =
-    (l.i ≤ l.many) × (l.many ≤ 8) × (length l.of ≡ 8) × (length l.out ≡ length l.initial.out) × Lays (flat_map (part_text (meant l.whole)) (take l.i l.of)) l.initial.out l.at l.out
-
-abbrev pub decreases-loop-i : goal.decreases-loop-i
-decreases-loop-i l = l.many - l.i
+abbrev pub invariant-loop-part : goal.invariant-loop-part
+invariant-loop-part l = Lays (flat_map (λ part. literal_bytes (against (meant l.fn.whole) part)) (take l.part-index l.parts)) l.initial.out l.at l.out

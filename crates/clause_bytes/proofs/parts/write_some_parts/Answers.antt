@@ -5,4 +5,4 @@ use Rattle.clause_bytes.proofs.parts.write_some_parts.Goals as goal
 
 pub returns : goal.returns
 unfolding meant
-returns c = rw some_parts_both c.write_both_ways.ensures
+returns c = rw (some_parts_both, ← c.as_slice.ensures) c.write_both_ways.ensures

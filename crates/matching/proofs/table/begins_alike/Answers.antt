@@ -1,12 +1,18 @@
--- The first nodes of the left side and of the subterm, by their bytes. Assumes nothing.
-use Rattle.matching.proofs.Alike.{variable_alike, symbol_missing, symbols_compared}
+-- The roots of the left side and of the subterm. Assumes nothing.
+use mathlib.Core.Path.{sym, ap, ap₂, ◌∙◌}
+use lib.Dec.{eqb}
+use Rattle.std.specs.Prelude.{is_some}
+use Rattle.std.specs.Option.{option_eq}
+use Rattle.matching.proofs.Alike.{no_symbol_alike, symbols_compared}
 use Rattle.matching.proofs.table.begins_alike.Goals as goal
 
-pub returns-then-book-left-ne3 : goal.returns-then-book-left-ne3
-returns-then-book-left-ne3 c arities l s d e h k = variable_alike h c.if-book-left-ne3.true s
+pub returns-then-is_none : goal.returns-then-is_none
+returns-then-is_none c l s d e h k =
+    c.if-is_none.true ∙ no_symbol_alike l s (ap is_some (sym (c.symbol_at-symbol.ensures l d h)) ∙ c.if-is_none.ensures)
 
-pub returns-then-bytes-at-ne3 : goal.returns-then-bytes-at-ne3
-returns-then-bytes-at-ne3 c arities l s d e h k = symbol_missing h k c.if-book-left-ne3.false c.if-bytes-at-ne3.true
-
-pub returns : goal.returns
-returns c arities l s d e h k = symbols_compared h k c.if-book-left-ne3.false c.if-bytes-at-ne3.false
+pub returns-else-is_none : goal.returns-else-is_none
+returns-else-is_none c l s d e h k =
+    let left = c.symbol_at-symbol.ensures l d h in
+    c.eq.ensures
+    ∙ ap₂ (option_eq eqb) left (c.symbol_at.ensures s e k)
+    ∙ symbols_compared l s (ap is_some (sym left) ∙ c.if-is_none.ensures)

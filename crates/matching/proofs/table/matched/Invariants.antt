@@ -1,6 +1,5 @@
--- The loop's invariant: the matching of whatever terms stand there has come to the two places at hand. The measure is what is left of the left
--- side.
-use Prim.Native.Nat.{ℕ, ◌-◌}
+-- The loop's invariant: the matching of whatever terms stand there has come to the two places at hand.
+use Prim.Native.Nat.{ℕ}
 use Rattle.term.specs.Term.{Term}
 use Rattle.term.specs.At.{At}
 use Rattle.matching.specs.Table.{table_of}
@@ -9,8 +8,5 @@ use Rattle.matching.proofs.table.matched.Given as goal
 
 abbrev pub invariant-loop-left : goal.invariant-loop-left
 invariant-loop-left l =
-    (left s : Term) (e : ℕ) → At l.book l.arities l.left_at left l.left_end → At l.bytes l.arities l.at s e →
-    Going l.book l.bytes l.arities left s l.left_end e l.left l.place (table_of left s l.at) l.table
-
-abbrev pub decreases-loop-left : goal.decreases-loop-left
-decreases-loop-left l = l.left_end - l.left
+    (left s : Term) (e : ℕ) → At l.book l.terms.arities l.left_at left l.left_end → At l.terms.bytes.now l.terms.arities l.at s e →
+    Going l.book l.terms.bytes.now l.terms.arities left s l.left_end e l.left l.place (table_of left s l.at) l.table

@@ -1,10 +1,10 @@
 -- A term ends two bytes a node behind its start.
-use native.Mathlib.Omega.{arith}
+use Rattle.std.proofs.Common.{arith}
 use Rattle.term.proofs.At.{at_end_lem}
 use Rattle.rule_blocks.proofs.nodes.node_behind.Goals as goal
 
 pub overflow_sub-result : goal.overflow_sub-result
-overflow_sub-result c = omega (arith, c.end_of-end.ensures c.requires.term c.requires.behind c.requires.stands, at_end_lem c.requires.stands)
+overflow_sub-result c = omega (arith, c.end_of.ensures c.requires.term c.requires.behind c.requires.stands, at_end_lem c.requires.stands)
 
 pub returns : goal.returns
-returns c = λ t e h. omega (arith, c.end_of-end.ensures t e h, at_end_lem h)
+returns c = λ t e h. omega (arith, c.end_of.ensures t e h, at_end_lem h)

@@ -1,5 +1,3 @@
-use Rattle.std.proofs.Common.{rules}
-use Rattle.text.specs.Decimal.{decimal}
 use Rattle.text.proofs.LastDigit.{decimal_digit, decimal_last}
 use Rattle.text.proofs.Laying.{lays_then}
 use Rattle.text.proofs.writing.+write_decimal.Goals as goal

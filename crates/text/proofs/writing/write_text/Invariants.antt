@@ -1,9 +1,0 @@
--- So far the text's first bytes lie at the buffer's start.
-use Rattle.std.proofs.Common.{◌≡◌, ◌≤◌, ◌-◌, ◌++◌, length, take, drop}
-use Rattle.text.proofs.writing.write_text.Given as goal
-
-abbrev pub invariant-loop-at : goal.invariant-loop-at
-invariant-loop-at l = (l.at ≤ length l.text) × (l.at ≤ length l.initial.out) × (length l.out ≡ length l.initial.out) × (l.out ≡ take l.at l.text ++ drop l.at l.initial.out)
-
-abbrev pub decreases-loop-at : goal.decreases-loop-at
-decreases-loop-at l = length l.text - l.at
