@@ -11,7 +11,7 @@ ghost use Rattle.answer_lines.specs.Progress.{HoldsValues, HoldsSaid, Tells, Sam
 
 use crate::reader::{BadLine, Reader, Stage};
 use items::{Item, read_item};
-use words::same;
+use words::{next, same};
 
 impl Reader {
     // "Lines starting with c are passed over .. No other line, empty lines included, is taken."
@@ -67,13 +67,19 @@ impl Reader {
             (line_after fault self.old.variables self.old.rank_variables (satisfied (unclosed ls)) (item_line (words space items.now)))
             result self.new.stage self.new.table }
     {
-        if items.iter().all(|&b| b == b' ') {
-            return Err(BadLine);
+        let mut found = false;
+        let mut at = 0;
+        // By places: `split` turns once a space, and a line of many spaces took more than twice as long with it.
+        while at < items.len() {
+            let start = at;
+            let end = next(items, start, b' ');
+            at = end + 1;
+            if start < end {
+                self.take_word(&items[start..end])?;
+                found = true;
+            }
         }
-        for word in items.split(|&b| b == b' ').filter(|word| !word.is_empty()) {
-            self.take_word(word)?;
-        }
-        Ok(())
+        if found { Ok(()) } else { Err(BadLine) }
     }
 
     // "A single 0 closes the values; only spaces and c lines may follow."

@@ -19,7 +19,7 @@ use Rattle.term.specs.Prefix.{Node, symbolic, variable, arity_of}
 use Rattle.book.specs.Checks.{body_at, allowed, body_fits, room_left, tested}
 use Rattle.book.specs.Entries.{nothing_read, with_symbol, with_left, with_right, with_rule}
 use Rattle.book.specs.Placed.{side_whole, side_after, behind_node, node_taken, next, start, placed}
-use Rattle.book.specs.declared.reader.Reader.{Reader}
+use Rattle.book.specs.Placed.{Reader}
 use Rattle.book.specs.Sides.{side_open, left_open, no_side, opened, with_node}
 use Rattle.book.specs.declared.Book.{Book as PlacedBook}
 use Rattle.book.specs.declared.sides.Stage.{Stage}

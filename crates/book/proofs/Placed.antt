@@ -22,7 +22,7 @@ use Rattle.book.specs.Reading as trees
 use Rattle.book.specs.Reading.{State, side_of, read_book}
 use Rattle.book.specs.Placed as places
 use Rattle.book.specs.Placed.{placed}
-use Rattle.book.specs.declared.reader.Reader.{Reader}
+use Rattle.book.specs.Placed.{Reader}
 use Rattle.book.specs.Meaning.{book_at, meaning}
 use Rattle.book.specs.declared.Book.{Book as PlacedBook}
 use Rattle.book.proofs.Tests.{passed}

@@ -19,7 +19,7 @@ use Rattle.book.specs.Reading as trees
 use Rattle.book.specs.Reading.{Stage, before_rules, in_left, in_right, rule_whole, State, side_of}
 use Rattle.book.specs.Placed as places
 use Rattle.book.specs.Placed.{side_whole, side_after, behind_node, node_taken}
-use Rattle.book.specs.declared.reader.Reader.{Reader}
+use Rattle.book.specs.Placed.{Reader}
 use Rattle.book.specs.Meaning.{arities_of}
 use Rattle.book.specs.declared.Book.{Book as PlacedBook}
 use Rattle.book.specs.declared.RulePlaces.{RulePlaces}

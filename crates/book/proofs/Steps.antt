@@ -15,7 +15,7 @@ use Rattle.term.specs.Tables.{kind_of, body_length}
 use Rattle.book.specs.Checks.{body_at, checked, nothing_more}
 use Rattle.book.specs.Entries.{with_right, with_rule}
 use Rattle.book.specs.Placed.{side_whole, side_after, behind_node, next, ended, placed_from, start, placed}
-use Rattle.book.specs.declared.reader.Reader.{Reader}
+use Rattle.book.specs.Placed.{Reader}
 use Rattle.book.specs.Sides.{left_open, no_side, opened, with_node}
 use Rattle.book.specs.declared.sides.Side.{Side}
 use Rattle.book.specs.declared.sides.Stage.TheVariants.{InRight, RuleWhole}

@@ -11,9 +11,17 @@ use Rattle.book.specs.Checks.{body_at, checked_at, nothing_more}
 use Rattle.book.specs.Entries.{nothing_read, with_symbol, with_left, with_right, with_rule}
 use Rattle.book.specs.Sides.{left_open, no_side, opened, with_node}
 use Rattle.book.specs.declared.Book.{Book as PlacedBook}
-use Rattle.book.specs.declared.reader.Reader.{Reader}
+use Rattle.book.specs.declared.sides.Side.{Side}
 use Rattle.book.specs.declared.sides.Stage.{Stage}
 use Rattle.book.specs.declared.sides.Stage.TheVariants.{BeforeRules, InLeft, InRight, RuleWhole}
+
+-- What was read so far, and the side that is being read.
+pub record Reader : Type 0 where
+  pub book : PlacedBook
+  pub side : Side
+
+abbrev pub so_far : PlacedBook → Side → Reader
+so_far b side = record { book = b; side = side }
 
 -- A left side that is whole gives way to the right, which starts at e, and a right side that is whole ends its rule.
 unfoldable pub side_whole : PlacedBook → (e : ℕ) → Stage → (nodes : ℕ) → Reader

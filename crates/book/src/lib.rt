@@ -12,7 +12,6 @@ ghost use Rattle.book.specs.Meaning.{meaning};
 ghost use Rattle.book.specs.Placed.{placed};
 
 use checks::{byte_at, check_record};
-use reader::Reader;
 use reply::Refusal;
 use sides::{Side, Stage};
 use term::kinds::Kind;
@@ -48,33 +47,34 @@ pub fn read_book(bytes: &[u8]) -> Result<Book, Refusal>
     ensures settled { result ≡ placed bytes.now }
     ensures means { meaning bytes.now result ≡ read_book bytes.now }
 {
-    let mut reader = Reader::default();
+    let mut book = Book::default();
+    let mut side = Side::default();
     let mut at: usize = 0;
     // The places are the answer and the records have no fixed length, so an iterator would have to count `at` just the same.
     while at < bytes.len() {
-        let kind = check_record(bytes, at, &reader)?;
+        let byte = bytes[at];
         let body = byte_at(bytes, at + 1);
-        at += 1 + term::body_length(bytes[at]);
+        let kind = check_record(bytes, at, byte, body, side, &book)?;
+        at += 1 + term::body_length(byte);
         match kind {
             Kind::Symbol => {
-                reader.book.arities[reader.book.symbols] = body;
-                reader.book.symbols += 1;
+                book.arities[book.symbols] = body;
+                book.symbols += 1;
             }
             Kind::Rule => {
-                reader.book.places[reader.book.rules].left.at = at;
-                reader.side = Side::opened(Stage::InLeft);
+                book.places[book.rules].left.at = at;
+                side = Side::opened(Stage::InLeft);
             }
             Kind::SymbolNode => {
-                let arity = reader.book.arities[wide(body)];
-                reader.take_node(wide(arity), at);
+                let arity = book.arities[wide(body)];
+                side = side.take_node(&mut book, wide(arity), at);
             }
-            Kind::VariableNode => reader.take_node(0, at),
+            Kind::VariableNode => side = side.take_node(&mut book, 0, at),
             Kind::End => {
-                return if at < bytes.len() {
-                    Err(Refusal::AfterEnd(at))
-                } else {
-                    Ok(reader.book)
-                };
+                if at < bytes.len() {
+                    return Err(Refusal::AfterEnd(at));
+                }
+                return Ok(book);
             }
         }
     }

@@ -6,7 +6,7 @@ ghost use Rattle.clauses.specs.File.{clause_bytes};
 ghost use Rattle.text.specs.Laying.{Lays};
 ghost use Rattle.clause_bytes.specs.Meaning.{meant, parts_in, against, part_clauses, both_ways};
 
-use crate::gathering::Parts;
+pub use crate::gathering::Parts;
 use crate::literals::{write_clause_end, write_literal};
 use crate::writing::{Literal, write_clause};
 

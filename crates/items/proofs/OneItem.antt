@@ -30,6 +30,43 @@ module _ (variables : ℕ) (sign : ℕ → Literal) where
   unfolding signed
   too_large w h = rw (signed, lt-leb w variables h, le-leb 1 w (omega arith))
 
+  nought : signed variables sign (some 0) ≡ faulty
+  unfolding signed
+  nought = refl
+
+  -- By the number from 1 to V that stands behind the sign, 0 for none.
+  signed_nought : (o : Option ℕ) → within variables o ≡ 0 → signed variables sign o ≡ faulty
+  unfolding within signed
+  signed_nought none e = refl
+  signed_nought (some w) e = go (dec_le w variables)
+    where
+      go : Dec (w ≤ variables) → signed variables sign (some w) ≡ faulty
+      go (yes h) = ap (λ (n : ℕ). signed variables sign (some n)) (sym (within_top variables w h) ∙ e)
+      go (no h) = too_large w (omega arith)
+
+  signed_number : (o : Option ℕ) → (within variables o ≡ 0 → ⊥) → signed variables sign o ≡ literal (sign (within variables o))
+  unfolding within
+  signed_number none d = absurd (d refl)
+  signed_number (some w) d = go (dec_le w variables)
+    where
+      go : Dec (w ≤ variables) → signed variables sign (some w) ≡ literal (sign (within variables (some w)))
+      go (yes h) =
+          let same : within variables (some w) ≡ w = within_top variables w h in
+          let low : 1 ≤ w = one_up w (λ z. d (same ∙ z)) in
+          rw same (accepted w low h)
+        where
+          one_up : (n : ℕ) → (n ≡ 0 → ⊥) → 1 ≤ n
+          one_up n f = omega arith
+      go (no h) = absurd (d (above_top variables w (omega arith)))
+
+  -- What is read as a sign and the number v.
+  module _ {x : Item} (o : Option ℕ) {v : ℕ} (read : x ≡ signed variables sign o) (e : v ≡ within variables o) where
+    pub nothing_read : v ≡ 0 → faulty ≡ x
+    nothing_read z = sym (read ∙ signed_nought o (sym e ∙ z))
+
+    pub literal_read : (v ≡ 0 → ⊥) → literal (sign v) ≡ x
+    literal_read d = ap (λ (n : ℕ). literal (sign n)) e ∙ sym (read ∙ signed_number o (λ z. d (e ∙ z)))
+
   -- By the number from 1 to V that stands behind the sign, if there is one: what is read as a sign and a number.
   signed_from : (make : ℕ → Read) → ((v : ℕ) → item_meaning (Some (make v)) ≡ literal (sign v)) → (o : Option ℕ) →
       item_meaning (option_map make (from_one (within variables o))) ≡ signed variables sign o
@@ -57,6 +94,11 @@ module _ (variables : ℕ) where
   pub closing_word : (word : List ℕ) → same_text word (48 ∷ []) ≡ true → closing ≡ item variables word
   unfolding item ascii
   closing_word word e = rw (item, e)
+
+  pub empty_word : (word : List ℕ) → length word ≡ 0 → faulty ≡ item variables word
+  unfolding item ascii same_text literal_of
+  empty_word [] e = refl
+  empty_word (b ∷ bs) e = absurd (omega arith)
 
   -- A word with a minus, and one without.
   pub minus : (word : List ℕ) → 0 < length word → get_or word 0 0 ≡ 45 → item variables word ≡ signed variables is_not (number (take (length word - 1) (drop 1 word)))

@@ -14,7 +14,7 @@ use Rattle.clauses.proofs.RankBits.{rank_bits_few}
 pub product : (a b top right : ℕ) → a ≤ top → b ≤ right → a * b ≤ top * right
 product a b top right h k = mul-le-mul h k
 
-pair_number_small : (n f g : ℕ) → Pair n f g → pair_number n f g ≤ 256
+pub pair_number_small : (n f g : ℕ) → Pair n f g → pair_number n f g ≤ 256
 unfolding pair_number
 pair_number_small n f g pair = go (ltb g f) refl
   where

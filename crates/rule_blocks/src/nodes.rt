@@ -22,7 +22,7 @@ use term::Terms;
 impl PlacedRule {
     // "C = base + 2(u|r| + v) + 1"
     #[tactic(auto, unfolding(crate::specs::Nodes::setting_of, clauses::specs::Blocks::CAt, clauses::specs::Numbering::C))]
-    pub(crate) fn c_number(self, u: usize, v: usize) -> usize
+    pub fn c_number(self, u: usize, v: usize) -> usize
         requires { WithinMaximum self × (u ≤ 10) × (v ≤ 10) }
         ensures { result ≡ CAt (setting_of self) u v }
     {

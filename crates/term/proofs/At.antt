@@ -140,6 +140,15 @@ module _ {bytes arities : List ℕ} where
   variable_root (variable_at w k b q) p = record { kind = k; variable = ap var (sym b); none = refl; ends = q }
   variable_root (symbol_at w k b l h) p = absurd (p k)
 
+  -- How many arguments there are, by the node's kind.
+  pub symbol_arguments :
+      {u : ℕ} {t : Term} {e : ℕ} → At bytes arities u t e → get_or bytes u 0 ≡ 3 → count (arguments t) ≡ get_or arities (get_or bytes (u + 1) 0) 0
+  symbol_arguments h p = (symbol_root h p).arity
+
+  pub variable_arguments : {u : ℕ} {t : Term} {e : ℕ} → At bytes arities u t e → (get_or bytes u 0 ≡ 3 → ⊥) → count (arguments t) ≡ 0
+  unfolding count
+  variable_arguments h p = ap count (variable_root h p).none
+
   -- The root's symbol, by the node's kind.
   pub root_symbol : {u : ℕ} {t : Term} {e : ℕ} → At bytes arities u t e → get_or bytes u 0 ≡ 3 → symbol_of t ≡ Some (get_or bytes (u + 1) 0)
   unfolding symbol_of

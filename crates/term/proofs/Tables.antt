@@ -3,11 +3,12 @@
 use Prim.Native.Nat.{ℕ, zero, suc, ◌+◌, ◌^◌, ◌≤◌, ◌<◌}
 use mathlib.Core.Bool.{Bool, true, ◌&&◌}
 use mathlib.Core.List.{List, [], ◌∷◌}
+use mathlib.Core.Path.{◌≡◌}
 use native.Mathlib.Omega.{arith}
 use native.Mathlib.Decide.{dec_lt}
 use native.Mathlib.Nat.{add-zero, zero-add, suc-add, add-suc}
 use lib.Dec.{T, leb, ltb, leb→le, ltb→lt}
-use lib.ListN.{length, get_or}
+use lib.ListN.{length, get_or, get_or-eq_default}
 use lib.Pow.{pow_mono}
 use Rattle.term.specs.Tables.{rank_bits_table, rank_bits}
 use Rattle.term.specs.Computing.{computing}
@@ -50,3 +51,8 @@ rank_bits_pass n h = rw zero-add at (passes_from least rank_bits_table 0 tt n (o
 
 pub rank_bits_least : (n : ℕ) → n ≤ 16 → (n ≤ 2 ^ rank_bits n) × ((j : ℕ) → n ≤ 2 ^ j → rank_bits n ≤ j)
 rank_bits_least n h = (least_enough n (rank_bits n) (rank_bits_pass n h), least_none_below n (rank_bits n) (rank_bits_pass n h))
+
+-- Behind the table's end it is 0.
+pub rank_bits_past : (n : ℕ) → 17 ≤ n → rank_bits n ≡ 0
+unfolding rank_bits rank_bits_table
+rank_bits_past n h = get_or-eq_default rank_bits_table 0 {n = n} (omega arith)

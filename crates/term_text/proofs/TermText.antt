@@ -13,7 +13,7 @@ use Rattle.text.proofs.Laying.{lays_as, lays_then, lays_length}
 use Rattle.term.specs.Term.{Term, Args, var, app, nil, cons}
 use Rattle.term.specs.Prefix.{Node, symbolic, variable, node_of, arity_of}
 use Rattle.term.specs.At.{At, ArgsAt, variable_at, symbol_at, none_at, and_at}
-use Rattle.term.proofs.At.{args_first, args_none}
+use Rattle.term.proofs.At.{at_root_lem, args_first, args_none}
 use Rattle.term.proofs.Nodes.{symbol_node, variable_node}
 use Rattle.term_text.specs.TermText.{name_text, term_text, bracketed, later_text, arguments_text, LaysTerm, LaysArguments}
 use Rattle.term_text.specs.declared.Texted.{Texted}
@@ -103,6 +103,11 @@ module _ {bytes arities : List ℕ} where
 
       room : at ≤ length before
       room = omega (arith, inner.within, mid_len k (length one) one (omega arith), marked.count, lays_length marked)
+
+  -- Where the bytes end no term stands.
+  pub no_term_lem :
+      (u : ℕ) (before : List ℕ) → length bytes ≤ u + 1 → LaysTerm bytes arities u before (record { laid = 0; next = u }) before
+  no_term_lem u before short = record { within = omega arith; onward = omega arith; text = λ t e h. absurd (omega (arith, short, at_root_lem h)) }
 
   -- A node without arguments.
   pub node_alone :

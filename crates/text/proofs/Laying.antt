@@ -1,10 +1,12 @@
 -- Text laid after text is their concatenation laid: what a writer lays onto the remainder of a buffer, behind what another has laid
 -- onto its start, stands there as if both texts had been one. Assumes nothing.
-use Prim.Native.Nat.{ℕ, ◌+◌, ◌-◌, ◌≤◌, min}
-use mathlib.Core.List.{List, [], ◌++◌, append_assoc, append-nil}
+use Prim.Native.Nat.{ℕ, zero, suc, ◌+◌, ◌-◌, ◌≤◌, ◌<◌, min}
+use mathlib.Core.List.{List, [], ◌∷◌, ◌++◌, append_assoc, append-nil}
 use mathlib.Core.Path.{◌≡◌, refl, sym, ap, subst, ◌∙◌}
+use native.Mathlib.Nat.{not-suc-le-zero, le_of_suc-le-suc}
+use native.Mathlib.Numerals.{add-one}
 use native.Mathlib.Omega.{arith, min_cases}
-use lib.ListN.{length, take, drop, length-append, length-take, length-drop, drop_of_length-le}
+use lib.ListN.{length, get_or, take, drop, set, length-append, length-take, length-drop, drop_of_length-le}
 use lib.Seq.{take_all, take_at, drop_at, take-append-add, take-append-le, drop-drop, length-take-le}
 use borrow.Rule.Slice.PartMut.{mid_of, put_mid}
 use Rattle.text.specs.Laying.{Lays}
@@ -25,6 +27,11 @@ fit_both s t room k m p q =
 -- Nothing laid.
 pub lays_nothing : (buffer : List ℕ) → Lays [] buffer 0 buffer
 lays_nothing buffer = record { count = omega arith; bytes = refl }
+
+-- One byte laid.
+pub lays_byte : (b : ℕ) (buffer : List ℕ) → 0 < length buffer → Lays (b ∷ []) buffer 1 (set buffer 0 b)
+lays_byte b [] h = absurd (omega arith)
+lays_byte b (old ∷ buffer) h = record { count = omega arith; bytes = refl }
 
 -- The same text, told otherwise.
 pub lays_as : {s t before after : List ℕ} {many : ℕ} → s ≡ t → Lays s before many after → Lays t before many after
@@ -79,3 +86,26 @@ lays_then {s} {t} {before} {between} {after} {k} {m} first second =
           ← fit_both s t (length before) k m first.count (second.count ∙ ap (min (length t)) room),
           append_assoc,
         )
+
+-- One more byte of a text is stored behind those that lie at a buffer's start.
+pub one_more_laid :
+    (text buffer : List ℕ) (j : ℕ) → j < length text → j < length buffer →
+    set (take j text ++ drop j buffer) j (get_or text j 0) ≡ take (suc j) text ++ drop (suc j) buffer
+one_more_laid [] buffer j p q = absurd (not-suc-le-zero p)
+one_more_laid (x ∷ text) [] j p q = absurd (not-suc-le-zero q)
+one_more_laid (x ∷ text) (y ∷ buffer) zero p q = refl
+one_more_laid (x ∷ text) (y ∷ buffer) (suc j) p q = ap (λ r. x ∷ r) (one_more_laid text buffer j (le_of_suc-le-suc p) (le_of_suc-le-suc q))
+
+pub lays_one_more :
+    (text before : List ℕ) {between : List ℕ} (j : ℕ) → j < length text → j < length before → between ≡ take j text ++ drop j before →
+    set between j (get_or text j 0) ≡ take (j + 1) text ++ drop (j + 1) before
+lays_one_more text before j p q e =
+    ap (λ (l : List ℕ). set l j (get_or text j 0)) e
+    ∙ one_more_laid text before j p q
+    ∙ ap (λ (n : ℕ). take n text ++ drop n before) (sym (add-one j))
+
+-- All that fits was laid.
+pub lays_all :
+    {text before after : List ℕ} {many : ℕ} → many ≡ min (length text) (length before) → after ≡ take many text ++ drop many before →
+    Lays text before many after
+lays_all e f = record { count = e; bytes = f }

@@ -21,7 +21,10 @@ pub fn write_text(text: &[u8], out: &mut [u8]) -> usize
     ensures { Lays text.now out.old result out.new }
 {
     let many = text.len().min(out.len());
-    out[..many].copy_from_slice(&text[..many]);
+    // Not copy_from_slice: for that the library would need a memmove from outside, and for this a memcpy, which it needs anyway.
+    for at in 0..many {
+        out[at] = text[at];
+    }
     many
 }
 

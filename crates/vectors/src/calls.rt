@@ -37,7 +37,7 @@ pub(crate) fn block(rt: &impl Print, book: &[u8], number: u64, lent: &mut Lent) 
 
 pub(crate) fn ranks(rt: &impl Print, book: &[u8], ranks: &[u8]) -> io::Result<()> {
     match clearing::check_ranks(book, ranks) {
-        Ok(()) => print!(rt; "accepted"),
+        Ok(()) => rt.write_all(b"accepted"),
         Err(refusal) => show::refused(rt, refusal),
     }
 }
@@ -45,7 +45,7 @@ pub(crate) fn ranks(rt: &impl Print, book: &[u8], ranks: &[u8]) -> io::Result<()
 pub(crate) fn answer(rt: &impl Print, book: &[u8], text: &[u8], lent: &mut Lent) -> io::Result<()> {
     match answer::ranks_from_answer(book, text, lent.room()) {
         Ok(symbols) => {
-            print!(rt; "ranks ")?;
+            rt.write_all(b"ranks ")?;
             show::bytes(rt, lent.laid(symbols))?;
             lent.show_later(rt, symbols)
         }
@@ -82,7 +82,7 @@ pub(crate) fn argument(rt: &impl Print, book: &[u8], record: &[u8], number: u64)
     match asking::argument_reply(book, record, number) {
         Ok(found) => print!(rt; " from {}", found.start),
         Err(refusal) => {
-            print!(rt; ", ")?;
+            rt.write_all(b", ")?;
             show::refused(rt, refusal)
         }
     }

@@ -34,9 +34,9 @@ impl Lent {
     pub(crate) fn show_later(&self, rt: &impl Print, told: usize) -> io::Result<()> {
         let later = &self.bytes[told.min(self.bytes.len())..];
         if later.iter().all(|byte| *byte == BEFORE) {
-            print!(rt; ", later bytes kept")
+            rt.write_all(b", later bytes kept")
         } else {
-            print!(rt; ", changed")
+            rt.write_all(b", changed")
         }
     }
 

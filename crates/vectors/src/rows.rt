@@ -61,15 +61,13 @@ fn long(rt: &impl Print, words: &[u8], book: &[u8]) -> io::Result<()> {
     calls::answer(rt, book, text, &mut Lent::new(fields::number(words)))
 }
 
-// A row under the book that these digits give, with its reply; a line that starts with `#` is a remark.
-fn show_row(rt: &impl Print, row: &[u8], digits: &[u8]) -> io::Result<()> {
+// A row under this book, with its reply; a line that starts with `#` is a remark.
+fn show_row(rt: &impl Print, row: &[u8], book: &[u8]) -> io::Result<()> {
     rt.write_all(row)?;
     if let [] | [_] | [b'#', ..] = row {
         return Ok(());
     }
-    print!(rt; ": ")?;
-    let mut space = [0u8; 4096];
-    let book = fields::bytes(digits, &mut space);
+    rt.write_all(b": ")?;
     let words = fields::rest(row);
     match row {
         [b'l', ..] => long(rt, words, book),
@@ -80,20 +78,21 @@ fn show_row(rt: &impl Print, row: &[u8], digits: &[u8]) -> io::Result<()> {
         [_, b'u', ..] => run(rt, words, book),
         [_, b'r', ..] => argument(rt, words, book),
         [_, b'n', ..] => answer(rt, words, book),
-        _ => print!(rt; "no such row"),
+        _ => rt.write_all(b"no such row"),
     }
 }
 
-// "book BOOK" gives the book of this row and of the rows below it, up to the next.
+// "book BOOK" gives the book of this row and of the rows below it, up to the next: it is read once, into a buffer.
 pub(crate) fn show_all(rt: &impl Print, rows: &[u8]) -> io::Result<()> {
-    let mut book: &[u8] = &[];
+    let mut book = [0u8; 4096];
+    let mut size = 0;
     for line in rows.split_inclusive(|byte| *byte == b'\n') {
         let row = line.strip_suffix(b"\n").unwrap_or(line);
         if let [_, _, _, b'k', b' ', ..] = row {
-            book = fields::rest(row);
+            size = fields::bytes(fields::rest(row), &mut book).len() as u64;
         }
-        show_row(rt, row, book)?;
-        print!(rt; "\n")?;
+        show_row(rt, row, fields::room(size, &mut book))?;
+        rt.write_all(b"\n")?;
     }
     Ok(())
 }

@@ -6,7 +6,7 @@ use std::io;
 // The bytes in hexadecimal, two digits each; `-` for none.
 pub(crate) fn bytes(rt: &impl Print, laid: &[u8]) -> io::Result<()> {
     if laid.is_empty() {
-        print!(rt; "-")?;
+        rt.write_all(b"-")?;
     }
     for byte in laid {
         print!(rt; "{byte:02x}")?;
@@ -18,7 +18,7 @@ pub(crate) fn bytes(rt: &impl Print, laid: &[u8]) -> io::Result<()> {
 pub(crate) fn lines(rt: &impl Print, laid: &[u8]) -> io::Result<()> {
     for line in laid.split_inclusive(|byte| *byte == b'\n') {
         rt.write_all(line.strip_suffix(b"\n").unwrap_or(line))?;
-        print!(rt; "|")?;
+        rt.write_all(b"|")?;
     }
     Ok(())
 }

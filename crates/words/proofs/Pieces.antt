@@ -9,7 +9,7 @@ use lib.ListN.{length, get_or, take, drop, length-drop}
 use lib.Seq.{drop-cons, drop-drop}
 use Rattle.std.specs.List.{prefix_len}
 use Rattle.std.proofs.lemmas.List.Sums.{prefix_len-le-length}
-use Rattle.text.specs.Text.{pieces, onto_first, up_to}
+use Rattle.text.specs.Text.{pieces, onto_first, up_to, nonempty, words}
 
 -- The bytes before the first end are those at the front that are none, as an iterator counts them.
 pub up_to_counted : (ends : ℕ → Bool) (text : List ℕ) → up_to ends text ≡ prefix_len (λ b. not (ends b)) text
@@ -62,3 +62,18 @@ module _ (ends : ℕ → Bool) where
 
         behind : drop e₀ (drop (suc at) text) ≡ drop (end + 1) text
         behind = drop-drop e₀ (suc at) text ∙ ap (λ (k : ℕ). drop k text) place
+
+    -- Between two ends that stand side by side there is no word.
+    pub no_word_at : end ≡ at → words ends (drop at text) ≡ words ends (drop (end + 1) text)
+    unfolding words nonempty
+    no_word_at e = ap nonempty piece_at ∙ ap (λ (k : ℕ). nonempty (take k (drop at text) ∷ pieces ends (drop (end + 1) text))) none
+      where
+        none : end - at ≡ 0
+        none = omega arith
+
+    pub word_at : at < end → words ends (drop at text) ≡ take (end - at) (drop at text) ∷ words ends (drop (end + 1) text)
+    unfolding words nonempty
+    word_at longer = ap nonempty piece_at ∙ rw (drop-cons text at 0 h, some) refl
+      where
+        some : end - at ≡ suc (end - at - 1)
+        some = omega arith

@@ -6,11 +6,13 @@ ghost use Rattle.text.specs.Decimal.{value_of, number, not_above, within};
 ghost use Rattle.words.specs.Numbers.{told, from_one};
 ghost use Rattle.text.specs.Text.{same_text, up_to};
 
-// The first place from `at` on that holds the byte `end`; where there is none, the text's length.
+// The first place from `at` on that holds the byte `end`; where there is none, the text's length. The part from `at` on, and no `skip`, which
+// would walk to it from the text's start.
 pub fn next(text: &[u8], at: usize, end: u8) -> usize
     ensures { result ≡ at + up_to (λ b. eqb b end) (drop at text.now) }
 {
-    at + text.iter().skip(at).take_while(|&&b| b != end).count()
+    let from = at.min(text.len());
+    at + text[from..].iter().take_while(|&&b| b != end).count()
 }
 
 // Whether two texts are the same bytes: `==`, under the name that the theorem same_settled and its wrong programs hold.

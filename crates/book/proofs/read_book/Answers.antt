@@ -8,11 +8,11 @@ use Rattle.term.specs.Prefix.{arity_of}
 use Rattle.book.specs.Checks.{tested}
 use Rattle.book.specs.Entries.{nowhere, nothing_read, with_symbol, with_left}
 use Rattle.book.specs.Meaning.{meaning}
-use Rattle.book.specs.Placed.{behind_node, node_taken, start, placed}
+use Rattle.book.specs.Placed.{behind_node, node_taken, start, placed, so_far}
 use Rattle.book.specs.Reading.{read_book}
 use Rattle.book.specs.Sides.{no_side}
 use Rattle.book.specs.declared.Book.{Book}
-use Rattle.book.specs.declared.reader.Reader.{Reader}
+use Rattle.book.specs.Placed.{Reader}
 use Rattle.book.specs.declared.RulePlaces.{RulePlaces}
 use Rattle.book.specs.declared.sides.Side.{Side}
 use Rattle.book.specs.declared.sides.Stage.TheVariants.{BeforeRules}
@@ -43,8 +43,9 @@ is_start r s a u p g m n = grind arith
 
 pub loop-at-init : goal.loop-at-init
 loop-at-init c =
-    let r = c.default-reader.result in
-    let ((s, (a, (u, p))), (g, (m, n))) = c.default-reader.ensures in
+    let r = so_far c.default-book.result c.default-side.result in
+    let (s, (a, (u, p))) = c.default-book.ensures in
+    let (g, (m, n)) = c.default-side.ensures in
     let arities = filled r.book.arities 16 0 a.long (λ i h. a.at i 0 h) in
     let places = filled r.book.places 32 nowhere p.long (λ i h. let d = p.at i nowhere h in places_nowhere _ d.0.0 d.0.1 d.1.0 d.1.1) in
     subst (λ (r : Reader). Going c.args.bytes.now r 0) (is_start r s arities u places g m n) (going_start c.args.bytes.now)
@@ -54,7 +55,7 @@ unfolding tested
 returns-in_err-kind c =
     let l = c.loop-at in
     let (why, is, same) = err_from_is_err_and c.from_residual.result c.from_residual.ensures.1 in
-    promised c.args.bytes.now (is ∙ ap Err same ∙ refused_here c.args.bytes.now l.reader l.at c.loop-at-test.true l.invariant.continues _ c.in_err-kind.ensures.checked)
+    promised c.args.bytes.now (is ∙ ap Err same ∙ refused_here c.args.bytes.now (so_far l.book l.side) l.at c.loop-at-test.true l.invariant.continues _ c.in_err-kind.ensures.checked)
 
 pub overflow_add-at-in-loop-at : goal.overflow_add-at-in-loop-at
 overflow_add-at-in-loop-at c = omega (arith, c.body_length.ensures, record_within (turn c.loop-at.invariant c.loop-at-test.true c.in_ok-kind.ensures.checked c.in_ok-kind.ensures.kind refl))
@@ -62,18 +63,18 @@ overflow_add-at-in-loop-at c = omega (arith, c.body_length.ensures, record_withi
 pub overflow_add-at-in-loop-at-2 : goal.overflow_add-at-in-loop-at-2
 overflow_add-at-in-loop-at-2 c = omega (arith, c.body_length.ensures, record_within (turn c.loop-at.invariant c.loop-at-test.true c.in_ok-kind.ensures.checked c.in_ok-kind.ensures.kind refl))
 
-pub bounds-reader-reader : goal.bounds-reader-reader
-bounds-reader-reader c = symbol_room (turn c.loop-at.invariant c.loop-at-test.true c.in_ok-kind.ensures.checked c.in_ok-kind.ensures.kind c.in-Symbol.is)
+pub bounds-book-book : goal.bounds-book-book
+bounds-book-book c = symbol_room (turn c.loop-at.invariant c.loop-at-test.true c.in_ok-kind.ensures.checked c.in_ok-kind.ensures.kind c.in-Symbol.is)
 
 pub loop-at-preserved-in-Symbol : goal.loop-at-preserved-in-Symbol
 unfolding with_symbol
 loop-at-preserved-in-Symbol c =
     let t = turn c.loop-at.invariant c.loop-at-test.true c.in_ok-kind.ensures.checked c.in_ok-kind.ensures.kind c.in-Symbol.is in
-    goes_on t (symbol_next t ∙ ap {B = Reader} (λ (arity : ℕ). record { book = with_symbol c.loop-at.reader.book arity; side = c.loop-at.reader.side }) (sym c.byte_at-body.ensures))
+    goes_on t (symbol_next t ∙ ap {B = Reader} (λ (arity : ℕ). record { book = with_symbol c.loop-at.book arity; side = c.loop-at.side }) (sym c.byte_at-body.ensures))
     _ (omega (arith, c.body_length.ensures)) (λ e. omega arith)
 
-pub bounds-reader-reader-in-Rule : goal.bounds-reader-reader-in-Rule
-bounds-reader-reader-in-Rule c = rule_room_lem (turn c.loop-at.invariant c.loop-at-test.true c.in_ok-kind.ensures.checked c.in_ok-kind.ensures.kind c.in-Rule.is)
+pub bounds-book-book-in-Rule : goal.bounds-book-book-in-Rule
+bounds-book-book-in-Rule c = rule_room_lem (turn c.loop-at.invariant c.loop-at-test.true c.in_ok-kind.ensures.checked c.in_ok-kind.ensures.kind c.in-Rule.is)
 
 pub loop-at-preserved-in-Rule : goal.loop-at-preserved-in-Rule
 unfolding with_left
@@ -81,47 +82,47 @@ loop-at-preserved-in-Rule c =
     let t = turn c.loop-at.invariant c.loop-at-test.true c.in_ok-kind.ensures.checked c.in_ok-kind.ensures.kind c.in-Rule.is in
     let is_behind : behind c.args.bytes.now c.loop-at.at ≡ c.loop-at.at + (1 + c.body_length.result) = omega (arith, c.body_length.ensures) in
     goes_on t
-    (rule_next t ∙ ap₂ {C = Reader} (λ (u : ℕ) (side : Side). record { book = with_left c.loop-at.reader.book u; side = side }) is_behind (sym c.opened-reader.ensures))
+    (rule_next t ∙ ap₂ {C = Reader} (λ (u : ℕ) (side : Side). record { book = with_left c.loop-at.book u; side = side }) is_behind (sym c.opened-side.ensures))
     _ is_behind (λ e. omega arith)
 
-pub bounds-reader-wide : goal.bounds-reader-wide
-bounds-reader-wide c = omega (arith, c.wide.ensures, c.byte_at-body.ensures, symbol_declared (turn c.loop-at.invariant c.loop-at-test.true c.in_ok-kind.ensures.checked c.in_ok-kind.ensures.kind c.in-SymbolNode.is))
+pub bounds-book-wide : goal.bounds-book-wide
+bounds-book-wide c = omega (arith, c.wide.ensures, c.byte_at-body.ensures, symbol_declared (turn c.loop-at.invariant c.loop-at-test.true c.in_ok-kind.ensures.checked c.in_ok-kind.ensures.kind c.in-SymbolNode.is))
 
-pub take_node-requires-clause-rule_room : goal.take_node-requires-clause-rule_room
-take_node-requires-clause-rule_room c = (symbol_here (turn c.loop-at.invariant c.loop-at-test.true c.in_ok-kind.ensures.checked c.in_ok-kind.ensures.kind c.in-SymbolNode.is)).rule_room
+pub take_node-side-requires-clause-rule_room : goal.take_node-side-requires-clause-rule_room
+take_node-side-requires-clause-rule_room c = (symbol_here (turn c.loop-at.invariant c.loop-at-test.true c.in_ok-kind.ensures.checked c.in_ok-kind.ensures.kind c.in-SymbolNode.is)).rule_room
 
-pub take_node-requires-clause-missing_nonzero : goal.take_node-requires-clause-missing_nonzero
-take_node-requires-clause-missing_nonzero c = (symbol_here (turn c.loop-at.invariant c.loop-at-test.true c.in_ok-kind.ensures.checked c.in_ok-kind.ensures.kind c.in-SymbolNode.is)).some_missing
+pub take_node-side-requires-clause-missing_nonzero : goal.take_node-side-requires-clause-missing_nonzero
+take_node-side-requires-clause-missing_nonzero c = (symbol_here (turn c.loop-at.invariant c.loop-at-test.true c.in_ok-kind.ensures.checked c.in_ok-kind.ensures.kind c.in-SymbolNode.is)).some_missing
 
-pub take_node-requires-in-VariableNode-clause-rule_room : goal.take_node-requires-in-VariableNode-clause-rule_room
-take_node-requires-in-VariableNode-clause-rule_room c = (variable_here (turn c.loop-at.invariant c.loop-at-test.true c.in_ok-kind.ensures.checked c.in_ok-kind.ensures.kind c.in-VariableNode.is)).rule_room
+pub take_node-side-requires-in-VariableNode-clause-rule_room : goal.take_node-side-requires-in-VariableNode-clause-rule_room
+take_node-side-requires-in-VariableNode-clause-rule_room c = (variable_here (turn c.loop-at.invariant c.loop-at-test.true c.in_ok-kind.ensures.checked c.in_ok-kind.ensures.kind c.in-VariableNode.is)).rule_room
 
-pub take_node-requires-in-VariableNode-clause-missing_nonzero : goal.take_node-requires-in-VariableNode-clause-missing_nonzero
-take_node-requires-in-VariableNode-clause-missing_nonzero c = (variable_here (turn c.loop-at.invariant c.loop-at-test.true c.in_ok-kind.ensures.checked c.in_ok-kind.ensures.kind c.in-VariableNode.is)).some_missing
+pub take_node-side-requires-in-VariableNode-clause-missing_nonzero : goal.take_node-side-requires-in-VariableNode-clause-missing_nonzero
+take_node-side-requires-in-VariableNode-clause-missing_nonzero c = (variable_here (turn c.loop-at.invariant c.loop-at-test.true c.in_ok-kind.ensures.checked c.in_ok-kind.ensures.kind c.in-VariableNode.is)).some_missing
 
 pub loop-at-preserved-in-SymbolNode : goal.loop-at-preserved-in-SymbolNode
 unfolding node_taken arity_of
 loop-at-preserved-in-SymbolNode c =
     let t = turn c.loop-at.invariant c.loop-at-test.true c.in_ok-kind.ensures.checked c.in_ok-kind.ensures.kind c.in-SymbolNode.is in
     let is_behind : behind c.args.bytes.now c.loop-at.at ≡ c.loop-at.at + (1 + c.body_length.result) = omega (arith, c.body_length.ensures) in
-    goes_on t ((symbol_here t).step ∙ ap₂ (λ (u opens : ℕ). behind_node c.loop-at.reader u opens) is_behind (cc) ∙ sym c.take_node.ensures) _ is_behind (λ e. omega arith)
+    goes_on t ((symbol_here t).step ∙ ap₂ (λ (u opens : ℕ). behind_node (so_far c.loop-at.book c.loop-at.side) u opens) is_behind (cc) ∙ sym c.take_node-side.ensures) _ is_behind (λ e. omega arith)
 
 pub loop-at-preserved : goal.loop-at-preserved
 unfolding node_taken arity_of
 loop-at-preserved c =
     let t = turn c.loop-at.invariant c.loop-at-test.true c.in_ok-kind.ensures.checked c.in_ok-kind.ensures.kind c.in-VariableNode.is in
     let is_behind : behind c.args.bytes.now c.loop-at.at ≡ c.loop-at.at + (1 + c.body_length.result) = omega (arith, c.body_length.ensures) in
-    goes_on t ((variable_here t).step ∙ ap (λ (u : ℕ). behind_node c.loop-at.reader u 0) is_behind ∙ sym c.take_node-in-VariableNode.ensures) _ is_behind (λ e. omega arith)
+    goes_on t ((variable_here t).step ∙ ap (λ (u : ℕ). behind_node (so_far c.loop-at.book c.loop-at.side) u 0) is_behind ∙ sym c.take_node-side-in-VariableNode.ensures) _ is_behind (λ e. omega arith)
 
 pub returns-then-at-bytes : goal.returns-then-at-bytes
 returns-then-at-bytes c =
     promised c.args.bytes.now
     (more_stands (turn c.loop-at.invariant c.loop-at-test.true c.in_ok-kind.ensures.checked c.in_ok-kind.ensures.kind c.in-End.is) refl _ (omega (arith, c.body_length.ensures)) c.if-at-bytes.true)
 
-pub returns-else-at-bytes : goal.returns-else-at-bytes
-returns-else-at-bytes c =
+pub returns-in-End : goal.returns-in-End
+returns-in-End c =
     promised c.args.bytes.now
     (all_stands (turn c.loop-at.invariant c.loop-at-test.true c.in_ok-kind.ensures.checked c.in_ok-kind.ensures.kind c.in-End.is) refl _ (omega (arith, c.body_length.ensures)) c.if-at-bytes.false)
 
 pub returns : goal.returns
-returns c = let l = c.loop-at in promised c.args.bytes.now (ended_early c.args.bytes.now l.reader l.at l.invariant.continues c.loop-at-test.false)
+returns c = let l = c.loop-at in promised c.args.bytes.now (ended_early c.args.bytes.now (so_far l.book l.side) l.at l.invariant.continues c.loop-at-test.false)
