@@ -1,3 +1,4 @@
 pub mod ArgumentPart
 pub mod HandedOut
+pub mod Unread
 pub mod Settled
