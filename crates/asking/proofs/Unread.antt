@@ -1,5 +1,5 @@
--- The reply by what reading the book comes to. A wrong program of argument_reply names this lemma: with it the right program in the same form
--- is proved. Assumes nothing.
+-- The reply by what reading the book comes to. A wrong program of argument_reply names this lemma, and definitions that it unfolds: with them the
+-- right program in the same form is proved. Assumes nothing.
 use Prim.Native.Nat.{ℕ}
 use mathlib.Core.List.{List}
 use mathlib.Core.Path.{◌≡◌, refl}
