@@ -7,10 +7,12 @@ use native.Mathlib.Omega.{arith}
 use lib.Dec.{eqb}
 use lib.ListN.{length, take, drop, drop_of_length-le}
 use Rattle.std.specs.Prelude.{Option, Ok, Err}
+use Rattle.std.specs.List.{list_all}
 use Rattle.reply.specs.Reply.{Refusal, Reply, given, refused, ◌>>=◌}
 use Rattle.text.specs.Text.{pieces, space, nonempty, words, up_to}
 use Rattle.clauses.specs.Cnf.{Literal}
 use Rattle.clauses.specs.Item.{item}
+use Rattle.words.proofs.Parts.{no_words}
 use Rattle.words.proofs.Pieces.{no_word_at, word_at}
 use Rattle.answer_lines.specs.Values.{Values, unclosed, item_after, items_after}
 use Rattle.answer_lines.specs.Lines.{Said, satisfied, item_line, values_after, line_after}
@@ -60,6 +62,13 @@ module _ (fault : Refusal) (variables rank_variables : ℕ) where
   read_word false all w ws e r = (w, ws, sym r ∙ e)
 
   module _ (items : List ℕ) (ls : List Literal) where
+    -- "one or more items"
+    pub no_item :
+        (bad : BadLine) (stage : Stage) (table : List (Option Bool)) → list_all space items ≡ true →
+        Tells HoldsSaid fault (line_after fault variables rank_variables (satisfied (unclosed ls)) (item_line (words space items))) (Err bad) stage table
+    unfolding line_after item_line
+    no_item bad stage table e = rw (no_words space items e) refl
+
     -- From place `at` of the items on, the stage and the table hold values behind which the line goes on; `found` says whether it had an item.
     pub record Behind (found : Bool) (stage : Stage) (table : List (Option Bool)) (at : ℕ) : Type 0 where
       pub values : Values

@@ -18,7 +18,7 @@ pub fn byte_at(bytes: &[u8], at: usize) -> u8
 }
 
 // Refusal 3: a symbol after a rule, a node outside a side still open, a rule or the end while a side is open. An arm for each kind here and in
-// the tests below, though some agree: so it is branched by the kind once for all of them.
+// `room_left`, though some agree: so it is branched by the kind once for all the tests.
 #[tactic(auto, unfolding(crate::specs::Checks::allowed, term::specs::Kinds::on_paper))]
 fn is_allowed(kind: Kind, stage: Stage) -> bool
     ensures { result ≡ allowed (on_paper kind) stage }
